@@ -16,15 +16,15 @@ abbrev pub any : {A : Type 0} → (A → Bool) → List A → Bool
 any f [] = false
 any f (x ∷ xs) = f x || any f xs
 
--- two lists of numbers are the same, and are not
+-- two lists of numbers are the same; the first is another than the second
 abbrev pub same : List ℕ → List ℕ → Bool
 same [] [] = true
 same [] (y ∷ ys) = false
 same (x ∷ xs) [] = false
 same (x ∷ xs) (y ∷ ys) = eqb x y && same xs ys
 
-abbrev pub differ : List ℕ → List ℕ → Bool
-differ xs ys = not (same xs ys)
+abbrev pub changed : List ℕ → List ℕ → Bool
+changed xs ys = not (same xs ys)
 
 -- some set has no value
 abbrev pub some-empty : List ℕ → Bool

@@ -1,0 +1,7 @@
+// Rows (constraints), what a kind of rows and a bank of kinds owe, and two banks side by side.
+pub mod bank;
+pub mod fault;
+pub mod kind;
+pub mod member;
+pub mod row;
+pub mod trace;
