@@ -84,7 +84,7 @@ pub cut-other-place : (i j : ℕ) (f : ℕ → Bool) (s : List ℕ) → j ≢ i 
 unfolding cut
 cut-other-place i j f s n = getD-set-other s i j (sift f (getD s i 0)) 0 n
 
-cut-past : (i : ℕ) (f : ℕ → Bool) (s : List ℕ) → length s ≤ i → cut i f s ≡ s
+pub cut-past : (i : ℕ) (f : ℕ → Bool) (s : List ℕ) → length s ≤ i → cut i f s ≡ s
 unfolding cut
 cut-past i f s h = set-past s i (sift f (getD s i 0)) h
 

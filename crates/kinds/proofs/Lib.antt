@@ -1,4 +1,6 @@
 pub mod Cuts
+pub mod Narrowing
+pub mod Scans
 pub mod Members
 pub mod DifferingLaws
 pub mod SumsLaws

@@ -1,6 +1,8 @@
 // The four kinds of rows.
 ghost use Rattle.kinds.specs.Cases.{Cases-stand};
 
+pub mod shared;
+
 // The turns, traces and verdicts of the table of cases are as written there.
 pub fn cases_stand() -> u8
     ensures { λ _. ⌜ Cases-stand ⌝ }
