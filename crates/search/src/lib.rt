@@ -1,0 +1,2 @@
+// The search for a title's least lawful placing.
+pub mod propagation;
