@@ -1,0 +1,4 @@
+// Keys of nodes, what a store of them is, and two stores: the shelf in lent memory, and the bare store.
+pub mod bare;
+pub mod key;
+pub mod store;
