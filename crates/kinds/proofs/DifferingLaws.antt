@@ -29,7 +29,7 @@ use Rattle.kinds.proofs.Members.{lettered-by, shaped-by, verdict-parts, stays-
 abbrev Tied : {A : Type 0} → (A → ℕ) → (A → ℕ) → List A → A → Type 0
 Tied f g xs x = Each (λ y. f y ≡ f x → g y ≡ g x) xs
 
-any-map : {A B : Type 0} (g : A → B) (f : B → Bool) (xs : List A) → any f (map g xs) ≡ any (λ x. f (g x)) xs
+pub any-map : {A B : Type 0} (g : A → B) (f : B → Bool) (xs : List A) → any f (map g xs) ≡ any (λ x. f (g x)) xs
 any-map g f [] = refl
 any-map g f (x ∷ xs) = ap (λ (b : Bool). f (g x) || b) (any-map g f xs)
 
@@ -61,14 +61,14 @@ tied-distinct f g (x ∷ xs) e d =
 
 -- ---- the set of a list's elements, and how many it has
 
-set-of : List ℕ → ℕ
+pub set-of : List ℕ → ℕ
 set-of l = mask 64 (λ v. any (eqb v) l)
 
-has-set-of : (l : List ℕ) (v : ℕ) → v < 64 → has (set-of l) v ≡ any (eqb v) l
+pub has-set-of : (l : List ℕ) (v : ℕ) → v < 64 → has (set-of l) v ≡ any (eqb v) l
 unfolding set-of
 has-set-of l v h = has-mask 64 (λ v. any (eqb v) l) v h
 
-set-of-below : (l : List ℕ) → set-of l < 2 ^ 64
+pub set-of-below : (l : List ℕ) → set-of l < 2 ^ 64
 unfolding set-of
 set-of-below l = mask-below 64 (λ v. any (eqb v) l)
 
@@ -94,7 +94,7 @@ none-there : ones (set-of []) ≡ 0
 none-there = ap ones (same-sets 64 (set-of []) 0 (set-of-below []) (lit< tt) (λ v h. has-set-of [] v h ∙ sym (has-none v))) ∙ ones-zero
 
 -- the elements differ where their set has as many values as the list has elements
-count-distinct : (l : List ℕ) → Each (λ x. x < 64) l → (ones (set-of l) ≤ length l) × (distinct l ≡ eqb (ones (set-of l)) (length l))
+pub count-distinct : (l : List ℕ) → Each (λ x. x < 64) l → (ones (set-of l) ≤ length l) × (distinct l ≡ eqb (ones (set-of l)) (length l))
 count-distinct [] d = (omega (arith, none-there), sym (eq-eqb (ones (set-of [])) 0 none-there))
 count-distinct (x ∷ l) d = go (cases-bool (any (eqb x) l)) (count-distinct l (d .1))
   where
@@ -118,11 +118,11 @@ same-distinct k l a b e same =
 
 -- ---- the turn
 
-takes-small : (ms rest : List Member) (s : List ℕ) → Small s → Small (takes ms rest s)
+pub takes-small : (ms rest : List Member) (s : List ℕ) → Small s → Small (takes ms rest s)
 takes-small ms [] s h = h
 takes-small ms (m ∷ rest) s h = takes-small ms rest (cuts (spares m (at s m)) ms s) (cuts-small (spares m (at s m)) ms s h)
 
-takes-narrower : (ms rest : List Member) (s : List ℕ) → Narrower (takes ms rest s) s
+pub takes-narrower : (ms rest : List Member) (s : List ℕ) → Narrower (takes ms rest s) s
 takes-narrower ms [] s = narrower-refl s
 takes-narrower ms (m ∷ rest) s =
     let u = cuts (spares m (at s m)) ms s in

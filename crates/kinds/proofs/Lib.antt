@@ -1,6 +1,7 @@
 pub mod Cuts
 pub mod Narrowing
 pub mod Scans
+pub mod Taking
 pub mod Members
 pub mod DifferingLaws
 pub mod SumsLaws

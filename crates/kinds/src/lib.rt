@@ -1,6 +1,7 @@
 // The four kinds of rows.
 ghost use Rattle.kinds.specs.Cases.{Cases-stand};
 
+pub mod all_different;
 pub mod shared;
 
 // The turns, traces and verdicts of the table of cases are as written there.

@@ -57,7 +57,7 @@ pub record Laws (m : Meaning) : Type 0 where
   pub checks : (r : RowData) (s : List ℕ) → Accepted m r (length s) → Proper s → all-fixed s ≡ true → m .holds r (values s) ≡ false → some-empty (m .turn r s) ≡ true
   -- what a trace keeps is all that matters to the fillings of the open voices
   pub projects : (r : RowData) (s t p q : List ℕ) → Accepted m r (length s) → Proper s → Proper t → Alike s t → m .trace r s ≡ m .trace r t
-    → Within p s → Within q t → Agree s p q → m .holds r p ≡ m .holds r q
+      → Within p s → Within q t → Agree s p q → m .holds r p ≡ m .holds r q
   -- an accepted row stays acceptable with more voices, and those never matter to it
   pub stays : (r : RowData) (n k : ℕ) → Accepted m r n → Accepted m r (n + k)
   pub holds-more : (r : RowData) (p q : List ℕ) → Accepted m r (length p) → m .holds r (p ++ q) ≡ m .holds r p

@@ -78,7 +78,11 @@ pub impl<X: Bank, Y: Bank> Bank for Beside<X, Y> as BesideBank {
 
     fn body_length(letter: u8) -> Option<usize> {
         let first = X::body_length(letter);
-        if first.is_some() { first } else { Y::body_length(letter) }
+        if first.is_some() {
+            first
+        } else {
+            Y::body_length(letter)
+        }
     }
 
     fn accept(row: &Row, voices: usize) -> Result<(), Fault> {

@@ -7,6 +7,7 @@ pub mod ops;
 
 // The most members that a row has, and the longest body.
 pub const MOST_MEMBERS: usize = 32;
+
 pub const LONGEST_BODY: usize = 16;
 
 // A row: its kind's letter, its body, whose first byte is the count of members, and its members. Its memory is reserved for the longest row, so that

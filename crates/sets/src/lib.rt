@@ -49,7 +49,11 @@ pub fn greatest_value(set: ValueSet) -> u32
 pub fn only_value(set: ValueSet) -> Option<u32>
     ensures { λ r. ⌜ r ≡ cond (fixed set) (Some (least set)) None ⌝ }
 {
-    if is_fixed(set) { Some(least_value(set)) } else { None }
+    if is_fixed(set) {
+        Some(least_value(set))
+    } else {
+        None
+    }
 }
 
 // The set of one value; the empty set where there is no such value.
@@ -63,14 +67,22 @@ pub fn single(value: u32) -> ValueSet
 pub fn values_up_to(value: u32) -> ValueSet
     ensures { λ r. ⌜ r ≡ mask 64 (λ v. leb v value) ⌝ }
 {
-    if value < 63 { (2u64 << value) - 1 } else { u64::MAX }
+    if value < 63 {
+        (2u64 << value) - 1
+    } else {
+        u64::MAX
+    }
 }
 
 // The set of the values from this one on.
 pub fn values_from(value: u32) -> ValueSet
     ensures { λ r. ⌜ r ≡ mask 64 (λ v. leb value v) ⌝ }
 {
-    if value < 64 { !((1u64 << value) - 1) } else { 0 }
+    if value < 64 {
+        !((1u64 << value) - 1)
+    } else {
+        0
+    }
 }
 
 // The set without the value.

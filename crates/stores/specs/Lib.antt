@@ -2,3 +2,4 @@ pub mod Keys
 pub mod Stores
 pub mod Shelves
 pub mod Bare
+pub mod Shown

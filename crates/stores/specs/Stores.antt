@@ -35,5 +35,5 @@ pub data Keeps (v : View) (k : List ℕ) : Stored → View → Type 0 where
   joins : (w : View) → member k (v .held) ≡ false → fits (length k) (v .space) ≡ true → Joined v k w → Keeps v k Kept w
   -- it does not fit: what is held is part of the old keys and the new one; a key of no words alters nothing
   loses : (w : View) → member k (v .held) ≡ false → fits (length k) (v .space) ≡ false
-    → ((x : List ℕ) → member x (w .held) ≡ true → (same x k || member x (v .held)) ≡ true)
-    → (length k ≡ 0 → w ≡ v) → Keeps v k Lost w
+      → ((x : List ℕ) → member x (w .held) ≡ true → (same x k || member x (v .held)) ≡ true)
+      → (length k ≡ 0 → w ≡ v) → Keeps v k Lost w

@@ -10,7 +10,7 @@ use Rattle.std.specs.declared.option.Option.{Option}
 use Rattle.std.specs.declared.option.Option.the-variants.{Some, None}
 use Rattle.rows.specs.Views.{rows-of}
 use Rattle.stores.specs.Keys.{key}
-use Rattle.stores.proofs.Words.{key-length, key-words}
+use Rattle.stores.proofs.Writing.{key-length, key-words}
 use Rattle.stores.proofs.key.write_key.Needs as need
 use Rattle.stores.proofs.key.write_key.Needs.{then-words-sets·by·then-words-sets, then-words-sets·by·else-words-sets·then-words-sets-2}
 

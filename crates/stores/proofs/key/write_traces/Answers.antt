@@ -9,7 +9,7 @@ use Rattle.rows.specs.declared.row.Row.{Row}
 use Rattle.rows.specs.declared.trace.Trace.{Trace}
 use Rattle.rows.specs.Views.{rows-of}
 use Rattle.stores.specs.Keys.{trace-words}
-use Rattle.stores.proofs.Words.{traces-more}
+use Rattle.stores.proofs.Writing.{traces-more}
 use Rattle.stores.proofs.key.write_traces.Needs as need
 
 pub loop-row-holds : need.loop-row-holds
@@ -19,11 +19,12 @@ loop-row-holds g c =
 pub loop-row-again : need.loop-row-again
 loop-row-again g c =
     let old = c .args .words .now in
-    let inside : c .loop-row .at + 1 < length old = omega (arith, c .loop-row .inv .0, c .loop-row-test .taken, c .pre) in
-    (omega (arith, c .loop-row .inv .0),
-    traces-more (g .B·Bank .meaning) (c .args .sets .now) (c .args .rows .now) (c .loop-row .row-index) (c .row-item .result) (take (c .args .from) old) old (c .loop-row .words) (c .args .from) (c .loop-row .at)
-    (c .from .result) (c .trace-trace .result .content) (c .loop-row-test .taken) (c .row-item .is) (length-take-le (c .args .from) old (omega (arith, c .pre))) (c .loop-row .inv .0) inside
-    (c .from .ensures ∙ ap (λ (t : Trace). t .mark) (c .trace-trace .ensures)) (ap (λ (t : Trace). t .content) (c .trace-trace .ensures)) (c .loop-row .inv .1))
+    let inside : c .loop-row .at + 1 < length old = omega (arith, c .loop-row .inv .0, c .loop-row-test .taken, c .pre) in (
+      omega (arith, c .loop-row .inv .0),
+      traces-more (g .B·Bank .meaning) (c .args .sets .now) (c .args .rows .now) (c .loop-row .row-index) (c .row-item .result) (take (c .args .from) old) old (c .loop-row .words) (c .args .from) (c .loop-row .at)
+          (c .from .result) (c .trace-trace .result .content) (c .loop-row-test .taken) (c .row-item .is) (length-take-le (c .args .from) old (omega (arith, c .pre))) (c .loop-row .inv .0) inside
+          (c .from .ensures ∙ ap (λ (t : Trace). t .mark) (c .trace-trace .ensures)) (ap (λ (t : Trace). t .content) (c .trace-trace .ensures)) (c .loop-row .inv .1),
+    )
 
 pub returns : need.returns
 returns g c =

@@ -7,7 +7,7 @@ use lib.ListN.{length, getD, take, drop}
 use Rattle.std.proofs.shelf.Lists.{take-all}
 use Rattle.sets.specs.Sets.{fixed}
 use Rattle.stores.specs.Keys.{voice-word}
-use Rattle.stores.proofs.Words.{voices-more}
+use Rattle.stores.proofs.Writing.{voices-more}
 use Rattle.stores.proofs.key.write_voices.Needs as need
 use Rattle.stores.proofs.key.write_voices.Needs.{then-is-fixed, else-is-fixed}
 

@@ -2,9 +2,10 @@
 use mathlib.Core.Path.{_≡_, refl, sym, ap, ap₂, _∙_}
 use mathlib.Core.List.{List, [], _∷_, _++_, map}
 use Prim.Native.Nat.{ℕ, suc, _+_, _*_, _≤_, _<_}
+use native.Mathlib.Nat.{add-zero}
 use native.Mathlib.Omega.{arith}
 use lib.ListN.{length, getD, set, take, drop}
-use Rattle.std.proofs.shelf.Lists.{drop-more, set-at, append-assoc, length-push, length-append, length-map, length-take-le, map-more, take-at, drop-at, drop-drop}
+use Rattle.std.proofs.shelf.Lists.{drop-more, set-at, append-assoc, length-push, length-append, length-map, length-take-le, map-more, take-at, drop-at, drop-drop, take-more, take-more-set, take-all, drop-set-lt, append-nil, take-append-drop}
 use Rattle.rows.specs.declared.row.Row.{Row}
 use Rattle.rows.specs.Rows.{RowData, Meaning}
 use Rattle.rows.specs.Views.{row-of, rows-of}
@@ -83,3 +84,37 @@ key-words m rows s old first last h e d =
     back : drop (length s + 2 * length rows) first ≡ drop (length s + 2 * length rows) old
     back = sym (drop-drop (2 * length rows) (length s) first) ∙ ap (drop (2 * length rows)) (ap (drop (length s)) e ∙ drop-at (voice-words s) (drop (length s) old) (length s) (length-map s voice-word))
         ∙ drop-drop (2 * length rows) (length s) old
+
+-- ---- a key behind its header
+
+-- one word of the key more
+pub word-more : (old key words : List ℕ) (at i : ℕ) → at + 1 + length key ≤ length old → i < length key
+    → words ≡ (take (at + 1) old ++ take i key) ++ drop (at + 1 + i) old
+    → set words (at + 1 + i) (getD key i 0) ≡ (take (at + 1) old ++ take (i + 1) key) ++ drop (at + 1 + (i + 1)) old
+word-more old key words at i room h w =
+    ap (λ (x : List ℕ). set x (at + 1 + i) (getD key i 0)) w
+    ∙ put-more (take (at + 1) old ++ take i key) old (at + 1 + i) (getD key i 0) long (omega arith)
+    ∙ ap₂ (λ (x : List ℕ) (n : ℕ). x ++ drop n old) (append-assoc (take (at + 1) old) (take i key) (getD key i 0 ∷ []) ∙ ap (λ (x : List ℕ). take (at + 1) old ++ x) (sym (take-more key i 0 h))) on
+  where
+    long : length (take (at + 1) old ++ take i key) ≡ at + 1 + i
+    long = length-append (take (at + 1) old) (take i key) ∙ omega (arith, length-take-le (at + 1) old (omega arith), length-take-le i key (omega arith))
+
+    on : at + 1 + i + 1 ≡ at + 1 + (i + 1)
+    on = omega arith
+
+-- all of it
+pub words-all : (old key words : List ℕ) (at h i : ℕ) → at < length old → length key ≤ i → i ≤ length key
+    → words ≡ (take (at + 1) (set old at h) ++ take i key) ++ drop (at + 1 + i) (set old at h)
+    → words ≡ (take at old ++ (h ∷ key)) ++ drop (at + 1 + length key) old
+words-all old key words at h i l e f w =
+    w
+    ∙ ap₂ (λ (x y : List ℕ). (x ++ y) ++ drop (at + 1 + i) (set old at h)) (take-more-set old at h l) (take-all i key e)
+    ∙ ap₂ (λ (x y : List ℕ). x ++ y) (append-assoc (take at old) (h ∷ []) key) (drop-set-lt (at + 1 + i) old at h (omega arith) ∙ ap (λ (n : ℕ). drop n old) same)
+  where
+    same : at + 1 + i ≡ at + 1 + length key
+    same = omega arith
+
+-- before the first word
+pub words-none : (old key : List ℕ) (at : ℕ) → old ≡ (take (at + 1) old ++ []) ++ drop (at + 1 + 0) old
+words-none old key at =
+    sym (ap₂ (λ (x : List ℕ) (n : ℕ). x ++ drop n old) (append-nil (take (at + 1) old)) (add-zero (at + 1)) ∙ take-append-drop (at + 1) old)
