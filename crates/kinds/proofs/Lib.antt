@@ -8,3 +8,6 @@ pub mod SumsLaws
 pub mod LiteralsLaws
 pub mod EntriesLaws
 pub mod Computed
+pub mod Adding
+pub mod Slacks
+pub mod Passes

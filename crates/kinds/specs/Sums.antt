@@ -2,8 +2,8 @@
 use mathlib.Core.List.{List, [], _∷_}
 use mathlib.Core.Bool.{Bool, cond, _&&_}
 use Prim.Native.Nat.{ℕ, _+_, _*_}
-use lib.IntN.{ℤ, pos, natAbs, _+ℤ_, _-ℤ_, _*ℤ_}
-use lib.Signed.{leZ, nonNeg}
+use lib.IntN.{ℤ, pos, natAbs, negℤ, _+ℤ_, _-ℤ_, _*ℤ_}
+use lib.Signed.{leZ, nonNeg, _≤ℤ_}
 use lib.Dec.{leb}
 use mir.Syntax.{w32}
 use mir.Val.{toZ}
@@ -44,6 +44,11 @@ within r s m v = leZ (term m v +ℤ (total (low s) (r .members) -ℤ low s m)) (
 -- the bound from -3,000,000 to 3,000,000, the coefficients from -1,000 to 1,000
 abbrev pub linear-rule : RowData → Bool
 linear-rule r = leb (natAbs (bound r)) 3000000 && all (λ m. leb (natAbs (m .argument)) 1000) (r .members)
+
+-- z lies from -n to n: so the code's sums fit
+pub record Near (n : ℕ) (z : ℤ) : Type 0 where
+  pub above : z ≤ℤ pos n
+  pub below : negℤ (pos n) ≤ℤ z
 
 abbrev pub linear : KindMeaning
 linear = record {

@@ -2,6 +2,7 @@
 ghost use Rattle.kinds.specs.Cases.{Cases-stand};
 
 pub mod all_different;
+pub mod linear;
 pub mod shared;
 
 // The turns, traces and verdicts of the table of cases are as written there.
