@@ -42,22 +42,22 @@ fn row(heap: Global, letter: u8, body: &[u8], members: &[(u16, i16)]) -> Result<
 }
 
 // The six voices of the rhythm section take lanes of their own.
-pub fn own_lanes(heap: Global) -> Result<Row, AllocError> {
+fn own_lanes(heap: Global) -> Result<Row, AllocError> {
     row(heap, b'A', &[6], &[(0, 0), (1, 0), (2, 0), (3, 0), (4, 0), (5, 0)])
 }
 
 // The load 2 x bass + 3 x kick + 2 x snare + hat is at most 24.
-pub fn load_limit(heap: Global) -> Result<Row, AllocError> {
+fn load_limit(heap: Global) -> Result<Row, AllocError> {
     row(heap, b'L', &[4, 24, 0, 0, 0], &[(1, 2), (3, 3), (4, 2), (5, 1)])
 }
 
 // The strings are on lane 0, or the pad is not on lane 2.
-pub fn exclusion(heap: Global) -> Result<Row, AllocError> {
+fn exclusion(heap: Global) -> Result<Row, AllocError> {
     row(heap, b'C', &[2], &[(6, 0), (2, 66)])
 }
 
 // The strings' bank is the one that their lane is wired to, and so is the choir's.
-pub fn wiring(heap: Global, voice: u8, bank: u8) -> Result<Row, AllocError> {
+fn wiring(heap: Global, voice: u8, bank: u8) -> Result<Row, AllocError> {
     row(
         heap,
         b'E',
@@ -67,6 +67,18 @@ pub fn wiring(heap: Global, voice: u8, bank: u8) -> Result<Row, AllocError> {
 }
 
 // The choir is at least four lanes above the strings: strings - choir <= -4.
-pub fn apart(heap: Global) -> Result<Row, AllocError> {
+fn apart(heap: Global) -> Result<Row, AllocError> {
     row(heap, b'L', &[2, 0xFC, 0xFF, 0xFF, 0xFF], &[(6, 1), (7, -1)])
+}
+
+// The title's rows, in the order in which they take turns.
+pub fn rows(heap: Global) -> Result<Vec<Row>, AllocError> {
+    let mut rows = Vec::new(heap);
+    rows.push(own_lanes(heap)?)?;
+    rows.push(load_limit(heap)?)?;
+    rows.push(exclusion(heap)?)?;
+    rows.push(wiring(heap, 6, 8)?)?;
+    rows.push(wiring(heap, 7, 9)?)?;
+    rows.push(apart(heap)?)?;
+    Ok(rows)
 }
