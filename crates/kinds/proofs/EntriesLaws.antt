@@ -26,7 +26,7 @@ use Rattle.kinds.proofs.Members.{lettered-by, shaped-by, verdict-parts, parts-
 
 -- ---- entries
 
-entry-past : (ms : List Member) (i : ℕ) → length ms ≤ i → entry ms i ≡ 64
+pub entry-past : (ms : List Member) (i : ℕ) → length ms ≤ i → entry ms i ≡ 64
 entry-past [] i h = refl
 entry-past (m ∷ ms) zero h = absurd (out (length ms) h)
   where

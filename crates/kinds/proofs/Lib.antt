@@ -11,3 +11,6 @@ pub mod Computed
 pub mod Adding
 pub mod Slacks
 pub mod Passes
+pub mod Masked
+pub mod LiteralSteps
+pub mod EntrySteps

@@ -50,9 +50,12 @@ element-trace r i v true false = open-with (entry (r .members) (least i))
 element-trace r i v false true = open-with (least v)
 element-trace r i v false false = open-with 0
 
--- the entries from 0 to 63, each with a voice of 0, which names none
+-- an entry from 0 to 63, with a voice of 0, which names none
+abbrev pub is-entry : Member → Bool
+is-entry m = eqb (m .voice) 0 && (nonNeg (m .argument) && ltb (natAbs (m .argument)) 64)
+
 abbrev pub element-rule : RowData → Bool
-element-rule r = all (λ m. eqb (m .voice) 0 && (nonNeg (m .argument) && ltb (natAbs (m .argument)) 64)) (r .members)
+element-rule r = all is-entry (r .members)
 
 abbrev pub element : KindMeaning
 element = record {

@@ -2,6 +2,8 @@
 ghost use Rattle.kinds.specs.Cases.{Cases-stand};
 
 pub mod all_different;
+pub mod clause;
+pub mod element;
 pub mod linear;
 pub mod shared;
 
