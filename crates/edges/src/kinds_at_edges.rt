@@ -77,7 +77,12 @@ fn repeated_voices(rt: LibcRuntime) -> Result<(), Fail> {
     check_eq(number(AllDifferent::accept(&twice, 1)), 9)?;
     check_eq(number(AllDifferent::accept(&twice, 0)), 8)?;
     // voice 0 twice, 1 and -2, bound -4: 0 and 1 leave by the first pair, and 3 by no member
-    let sums = row(heap, b'L', &[3, 0xFC, 0xFF, 0xFF, 0xFF], &[(0, 1), (0, -2), (1, 1)])?;
+    let sums = row(
+        heap,
+        b'L',
+        &[3, 0xFC, 0xFF, 0xFF, 0xFF],
+        &[(0, 1), (0, -2), (1, 1)],
+    )?;
     let mut sets = [0b1111u64, 0b11];
     check(Linear::turn(&sums, &mut sets))?;
     check_eq(sets, [0b0100, 0b11])?;

@@ -23,7 +23,9 @@ fn small_keys() -> Result<(), Fail> {
     check(is_kept(shelf.keep(&[7, 7])))?;
     check(is_kept(shelf.keep(&[7, 8])))?;
     check(shelf.find(&[7]) && shelf.find(&[7, 7]) && shelf.find(&[7, 8]))?;
-    check(!shelf.find(&[8]) && !shelf.find(&[7, 9]) && !shelf.find(&[7, 7, 7]) && !shelf.find(&[]))?;
+    check(
+        !shelf.find(&[8]) && !shelf.find(&[7, 9]) && !shelf.find(&[7, 7, 7]) && !shelf.find(&[]),
+    )?;
     check(is_kept(shelf.keep(&[7, 7])))?;
     // 8 of 16 words are used: a key of 7 fits exactly
     check(is_kept(shelf.keep(&[1, 2, 3, 4, 5, 6, 7])))?;

@@ -19,63 +19,6 @@ use rows::trace::Trace;
 use sets::ValueSet;
 use sets::is_fixed;
 
-// The kind of rows whose members' values all differ.
-pub struct AllDifferent;
-
-pub impl Kind for AllDifferent as AllDifferentKind {
-    const LETTER: u8 = 0x41;
-
-    const BODY_LENGTH: usize = 1;
-
-    ghost meaning = { all-different };
-
-    fn letter_code() -> u8 {
-        Self::LETTER
-    }
-
-    fn body_len() -> usize {
-        Self::BODY_LENGTH
-    }
-
-    // A row is accepted where it has the shape, its voices are declared, its arguments are 0 and no voice repeats.
-    fn accept(row: &Row, voices: usize) -> Result<(), Fault> {
-        let members = row.members();
-        let shape = is_shaped(row, Self::LETTER, Self::BODY_LENGTH);
-        judge(
-            shape,
-            are_declared(members, voices),
-            have_no_arguments(members) && have_own_voices(members),
-        )
-    }
-
-    // Each member in order, if it is fixed by then, takes its value out of every other member's set.
-    fn turn(row: &Row, sets: &mut [ValueSet]) -> bool {
-        let members = row.members();
-        let mut took = false;
-        for m in members {
-            took |= take_from_others(members, *m, sets);
-        }
-        took
-    }
-
-    // Settled where the fixed members have as many values as there are members; else those values.
-    fn trace(row: &Row, sets: &[ValueSet]) -> Trace {
-        let members = row.members();
-        let values = values_of_fixed(members, sets);
-        if values.count_ones() as usize == members.len() {
-            Trace {
-                mark: 0,
-                content: 0,
-            }
-        } else {
-            Trace {
-                mark: 1,
-                content: values,
-            }
-        }
-    }
-}
-
 // Whether the members' arguments are all 0.
 fn have_no_arguments(members: &[Member]) -> bool
     ensures { λ r. ⌜ r ≡ all (λ m. eqb (natAbs (m .argument)) 0) (now (members .entry)) ⌝ }
@@ -142,4 +85,61 @@ fn values_of_fixed(members: &[Member], sets: &[ValueSet]) -> ValueSet
         }
     }
     values
+}
+
+// The kind of rows whose members' values all differ.
+pub struct AllDifferent;
+
+pub impl Kind for AllDifferent as AllDifferentKind {
+    const LETTER: u8 = 0x41;
+
+    const BODY_LENGTH: usize = 1;
+
+    ghost meaning = { all-different };
+
+    fn letter_code() -> u8 {
+        Self::LETTER
+    }
+
+    fn body_len() -> usize {
+        Self::BODY_LENGTH
+    }
+
+    // A row is accepted where it has the shape, its voices are declared, its arguments are 0 and no voice repeats.
+    fn accept(row: &Row, voices: usize) -> Result<(), Fault> {
+        let members = row.members();
+        let shape = is_shaped(row, Self::LETTER, Self::BODY_LENGTH);
+        judge(
+            shape,
+            are_declared(members, voices),
+            have_no_arguments(members) && have_own_voices(members),
+        )
+    }
+
+    // Each member in order, if it is fixed by then, takes its value out of every other member's set.
+    fn turn(row: &Row, sets: &mut [ValueSet]) -> bool {
+        let members = row.members();
+        let mut took = false;
+        for m in members {
+            took |= take_from_others(members, *m, sets);
+        }
+        took
+    }
+
+    // Settled where the fixed members have as many values as there are members; else those values.
+    fn trace(row: &Row, sets: &[ValueSet]) -> Trace {
+        let members = row.members();
+        let values = values_of_fixed(members, sets);
+        if values.count_ones() as usize == members.len() {
+            Trace {
+                mark: 0,
+                content: 0,
+            }
+        } else {
+            Trace {
+                mark: 1,
+                content: values,
+            }
+        }
+    }
 }

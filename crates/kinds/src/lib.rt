@@ -5,7 +5,7 @@ pub mod all_different;
 pub mod clause;
 pub mod element;
 pub mod linear;
-pub mod shared;
+mod shared;
 
 // The turns, traces and verdicts of the table of cases are as written there.
 pub fn cases_stand() -> u8

@@ -13,7 +13,7 @@ use rows::row::Row;
 use sets::ValueSet;
 
 // A voice's set; the empty set where there is no such voice.
-pub fn set_of(sets: &[ValueSet], voice: u16) -> ValueSet
+pub(crate) fn set_of(sets: &[ValueSet], voice: u16) -> ValueSet
     ensures { λ r. ⌜ r ≡ getD (now (sets .entry)) voice 0 ⌝ }
 {
     let place = usize::from(voice);
@@ -21,7 +21,7 @@ pub fn set_of(sets: &[ValueSet], voice: u16) -> ValueSet
 }
 
 // Of a voice's set only the values in `kept` stay; says whether one went.
-pub fn keep_only(sets: &mut [ValueSet], voice: u16, kept: ValueSet) -> bool
+pub(crate) fn keep_only(sets: &mut [ValueSet], voice: u16, kept: ValueSet) -> bool
     ensures after { λ _. ⌜ now (sets .exit) ≡ cut voice (has kept) (now (sets .entry)) ⌝ }
     ensures value { λ r. ⌜ r ≡ changed (now (sets .exit)) (now (sets .entry)) ⌝ }
 {
@@ -36,7 +36,7 @@ pub fn keep_only(sets: &mut [ValueSet], voice: u16, kept: ValueSet) -> bool
 }
 
 // Whether a row has this letter, so many body bytes, a count from 1 to 32 and that many members.
-pub fn is_shaped(row: &Row, letter: u8, body_length: usize) -> bool
+pub(crate) fn is_shaped(row: &Row, letter: u8, body_length: usize) -> bool
     ensures { λ r. ⌜ r ≡ shaped letter «body_length» (row-of (now (row .entry))) ⌝ }
 {
     let count = usize::from(row.byte(0));
@@ -48,7 +48,7 @@ pub fn is_shaped(row: &Row, letter: u8, body_length: usize) -> bool
 }
 
 // Whether the members' voices are all among the first `voices`.
-pub fn are_declared(members: &[Member], voices: usize) -> bool
+pub(crate) fn are_declared(members: &[Member], voices: usize) -> bool
     ensures { λ r. ⌜ r ≡ all (λ m. ltb (m .voice) voices) (now (members .entry)) ⌝ }
 {
     for m in members {
@@ -60,7 +60,7 @@ pub fn are_declared(members: &[Member], voices: usize) -> bool
 }
 
 // A row's verdict, by its shape, its voices and the kind's own rule: a voice that is not declared goes before a rule that is broken.
-pub fn judge(shape: bool, declared: bool, rule: bool) -> Result<(), Fault>
+pub(crate) fn judge(shape: bool, declared: bool, rule: bool) -> Result<(), Fault>
     ensures { λ r. ⌜ r ≡ verdict shape declared rule ⌝ }
 {
     if !shape {

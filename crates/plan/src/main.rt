@@ -22,7 +22,10 @@ mod show;
 mod title;
 
 // The four kinds side by side.
-type FourKinds = Beside<Alone<AllDifferent>, Beside<Alone<Linear>, Beside<Alone<Clause>, Alone<Element>>>>;
+type FourKinds = Beside<
+    Alone<AllDifferent>,
+    Beside<Alone<Linear>, Beside<Alone<Clause>, Alone<Element>>>,
+>;
 
 // Whether the kinds accept every row; says which they do not.
 fn are_accepted(rt: &LibcRuntime, rows: &[Row], voices: usize) -> io::Result<bool> {

@@ -5,7 +5,7 @@ use std::alloc::AllocError;
 use std::alloc::Global;
 
 // The values of a set in braces, ascending.
-pub fn set_text(heap: Global, set: ValueSet) -> Result<String, AllocError> {
+pub(crate) fn set_text(heap: Global, set: ValueSet) -> Result<String, AllocError> {
     let mut text = String::from_str(heap, "{")?;
     let mut left = set;
     for i in 0..set.count_ones() {
@@ -22,7 +22,7 @@ pub fn set_text(heap: Global, set: ValueSet) -> Result<String, AllocError> {
 }
 
 // What a kind's rows say, by the kind's letter.
-pub fn kind_name(letter: u8) -> &'static str {
+pub(crate) fn kind_name(letter: u8) -> &'static str {
     match letter {
         b'A' => "all different",
         b'L' => "weighted sum at most",

@@ -9,7 +9,16 @@ pub const NAME: &str = "Harbour at Dawn";
 
 // What the voices are called; all but the last two are placed on mixer lanes, those on sample banks.
 pub static VOICES: [&str; 10] = [
-    "lead", "bass", "pad", "kick", "snare", "hat", "strings", "choir", "strings bank", "choir bank",
+    "lead",
+    "bass",
+    "pad",
+    "kick",
+    "snare",
+    "hat",
+    "strings",
+    "choir",
+    "strings bank",
+    "choir bank",
 ];
 
 // The lanes and banks that each voice may take.
@@ -43,12 +52,22 @@ fn row(heap: Global, letter: u8, body: &[u8], members: &[(u16, i16)]) -> Result<
 
 // The six voices of the rhythm section take lanes of their own.
 fn own_lanes(heap: Global) -> Result<Row, AllocError> {
-    row(heap, b'A', &[6], &[(0, 0), (1, 0), (2, 0), (3, 0), (4, 0), (5, 0)])
+    row(
+        heap,
+        b'A',
+        &[6],
+        &[(0, 0), (1, 0), (2, 0), (3, 0), (4, 0), (5, 0)],
+    )
 }
 
 // The load 2 x bass + 3 x kick + 2 x snare + hat is at most 24.
 fn load_limit(heap: Global) -> Result<Row, AllocError> {
-    row(heap, b'L', &[4, 24, 0, 0, 0], &[(1, 2), (3, 3), (4, 2), (5, 1)])
+    row(
+        heap,
+        b'L',
+        &[4, 24, 0, 0, 0],
+        &[(1, 2), (3, 3), (4, 2), (5, 1)],
+    )
 }
 
 // The strings are on lane 0, or the pad is not on lane 2.
@@ -62,7 +81,16 @@ fn wiring(heap: Global, voice: u8, bank: u8) -> Result<Row, AllocError> {
         heap,
         b'E',
         &[8, voice, bank],
-        &[(0, 4), (0, 4), (0, 5), (0, 5), (0, 4), (0, 7), (0, 6), (0, 7)],
+        &[
+            (0, 4),
+            (0, 4),
+            (0, 5),
+            (0, 5),
+            (0, 4),
+            (0, 7),
+            (0, 6),
+            (0, 7),
+        ],
     )
 }
 
@@ -72,7 +100,7 @@ fn apart(heap: Global) -> Result<Row, AllocError> {
 }
 
 // The title's rows, in the order in which they take turns.
-pub fn rows(heap: Global) -> Result<Vec<Row>, AllocError> {
+pub(crate) fn rows(heap: Global) -> Result<Vec<Row>, AllocError> {
     let mut rows = Vec::new(heap);
     rows.push(own_lanes(heap)?)?;
     rows.push(load_limit(heap)?)?;

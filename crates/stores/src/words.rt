@@ -21,7 +21,7 @@ fn hash(words: &[u64]) -> u64
 }
 
 // The header of a key: its length, and above that the high part of its hash.
-pub fn header_of(key: &[u64]) -> u64
+pub(crate) fn header_of(key: &[u64]) -> u64
     requires { ⌜ length (now key) < 65536 ⌝ }
     ensures { λ r. ⌜ r ≡ header (now (key .entry)) ⌝ }
 {
@@ -44,7 +44,7 @@ fn same_words(a: &[u64], b: &[u64]) -> bool
 }
 
 // Whether the words hold the key. A key is compared only where its header is the key's own, and passed over otherwise.
-pub fn holds(words: &[u64], key: &[u64]) -> bool
+pub(crate) fn holds(words: &[u64], key: &[u64]) -> bool
     requires { ⌜ Whole (now words) ⌝ }
     ensures { λ r. ⌜ r ≡ member (now (key .entry)) (shelved (now (words .entry))) ⌝ }
 {
