@@ -1,12 +1,12 @@
 // What the kinds accept at the edges of their rules, and turns that a short rule gets wrong.
-use kinds::all_different::AllDifferent;
-use kinds::all_different::AllDifferentKind;
-use kinds::clause::Clause;
-use kinds::clause::ClauseKind;
-use kinds::element::Element;
-use kinds::element::ElementKind;
-use kinds::linear::Linear;
-use kinds::linear::LinearKind;
+use all_different::AllDifferent;
+use all_different::AllDifferentKind;
+use clause::Clause;
+use clause::ClauseKind;
+use element::Element;
+use element::ElementKind;
+use linear::Linear;
+use linear::LinearKind;
 use rows::fault::Fault;
 use rows::kind::Kind;
 use rows::member::Member;

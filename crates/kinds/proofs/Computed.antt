@@ -2,7 +2,7 @@
 use mathlib.Core.Path.{refl}
 use lib.Count.{ones, trailingZeros, leadingZeros}
 use Rattle.sets.specs.Sets.{mask, sift}
-use Rattle.kinds.specs.Shared.{cut}
+use Rattle.narrowing.specs.Shared.{cut}
 use Rattle.kinds.specs.Cases.{Cases-stand}
 
 pub cases-stand : Cases-stand

@@ -1,16 +1,1 @@
-pub mod Cuts
-pub mod Narrowing
-pub mod Scans
-pub mod Taking
-pub mod Members
-pub mod DifferingLaws
-pub mod SumsLaws
-pub mod LiteralsLaws
-pub mod EntriesLaws
 pub mod Computed
-pub mod Adding
-pub mod Slacks
-pub mod Passes
-pub mod Masked
-pub mod LiteralSteps
-pub mod EntrySteps

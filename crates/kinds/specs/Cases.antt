@@ -7,11 +7,11 @@ use Rattle.std.specs.declared.result.Result.the-variants.{Ok, Err}
 use Rattle.rows.specs.declared.fault.Fault.the-variants.{Undeclared, RuleBroken}
 use Rattle.rows.specs.declared.member.Member.{Member}
 use Rattle.rows.specs.Rows.{RowData, alone, beside}
-use Rattle.kinds.specs.Shared.{open-with, settled}
-use Rattle.kinds.specs.Differing.{all-different}
-use Rattle.kinds.specs.Sums.{linear}
-use Rattle.kinds.specs.Literals.{clause}
-use Rattle.kinds.specs.Entries.{element}
+use Rattle.narrowing.specs.Shared.{open-with, settled}
+use Rattle.all_different.specs.Differing.{all-different}
+use Rattle.linear.specs.Sums.{linear}
+use Rattle.clause.specs.Literals.{clause}
+use Rattle.element.specs.Entries.{element}
 
 abbrev pub of : ℕ → ℤ → Member
 of v a = record { voice = v; argument = a }

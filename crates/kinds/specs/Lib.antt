@@ -1,6 +1,1 @@
-pub mod Shared
-pub mod Differing
-pub mod Sums
-pub mod Literals
-pub mod Entries
 pub mod Cases

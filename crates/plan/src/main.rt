@@ -1,16 +1,11 @@
 // Narrows a built-in title: its rows take turns, round after round, until a round changes nothing or a voice has no place left.
-use kinds::all_different::AllDifferent;
-use kinds::all_different::AllDifferentKind;
-use kinds::clause::Clause;
-use kinds::clause::ClauseKind;
-use kinds::element::Element;
-use kinds::element::ElementKind;
-use kinds::linear::Linear;
-use kinds::linear::LinearKind;
-use rows::bank::Alone;
+use all_different::AllDifferentKind;
+use clause::ClauseKind;
+use element::ElementKind;
+use kinds::FourKinds;
+use linear::LinearKind;
 use rows::bank::AloneBank;
 use rows::bank::Bank;
-use rows::bank::Beside;
 use rows::bank::BesideBank;
 use rows::row::Row;
 use search::propagation::has_empty;
@@ -20,12 +15,6 @@ use std::io;
 
 mod show;
 mod title;
-
-// The four kinds side by side.
-type FourKinds = Beside<
-    Alone<AllDifferent>,
-    Beside<Alone<Linear>, Beside<Alone<Clause>, Alone<Element>>>,
->;
 
 // Whether the kinds accept every row; says which they do not.
 fn are_accepted(rt: &LibcRuntime, rows: &[Row], voices: usize) -> io::Result<bool> {

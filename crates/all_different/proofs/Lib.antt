@@ -1,0 +1,2 @@
+pub mod DifferingLaws
+pub mod Taking

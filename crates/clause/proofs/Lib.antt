@@ -1,0 +1,2 @@
+pub mod LiteralsLaws
+pub mod LiteralSteps

@@ -1,7 +1,0 @@
-use mathlib.Core.Path.{sym}
-use borrow.Author.Needs.{needs}
-use Rattle.kinds.proofs.Narrowing.{unchanged}
-use Rattle.kinds.proofs.clause.empty_first.Needs as need
-
-pub returns-in-empty : need.returns-in-empty
-returns-in-empty c = record { after = search needs; value = sym (unchanged (c .args .sets .now)) }

@@ -1,0 +1,4 @@
+pub mod SumsLaws
+pub mod Adding
+pub mod Slacks
+pub mod Passes

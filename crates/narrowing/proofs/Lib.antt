@@ -1,0 +1,5 @@
+pub mod Cuts
+pub mod Members
+pub mod Narrowing
+pub mod Scans
+pub mod Masked
