@@ -1,1 +1,2 @@
 pub mod SideBySide
+pub mod Layouts

@@ -2,3 +2,4 @@ pub mod Numbers
 pub mod Rows
 pub mod Laws
 pub mod Views
+pub mod Bytes

@@ -1,1 +1,15 @@
 pub mod Scans
+pub mod SetParts
+pub mod Boxes
+pub mod PropagationFacts
+pub mod KeyFacts
+pub mod LevelFacts
+pub mod NodeFacts
+pub mod HistoryFacts
+pub mod BranchingFacts
+pub mod AnswerFacts
+pub mod RefusalFacts
+pub mod OutcomeFacts
+pub mod StoreFacts
+pub mod LimitFacts
+pub mod NeverTwice

@@ -1,1 +1,10 @@
+pub mod Limits
 pub mod Propagation
+pub mod Search
+pub mod Placed
+pub mod Calls
+pub mod Histories
+pub mod Results
+pub mod Branching
+pub mod Behaviours
+pub mod Theorems

@@ -1,2 +1,3 @@
 // The search for a title's least lawful placing.
 pub mod propagation;
+pub mod theorems;
