@@ -1,2 +1,3 @@
 pub mod SideBySide
 pub mod Layouts
+pub mod Readings

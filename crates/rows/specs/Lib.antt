@@ -3,3 +3,4 @@ pub mod Rows
 pub mod Laws
 pub mod Views
 pub mod Bytes
+pub mod Reading

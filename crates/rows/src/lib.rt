@@ -4,5 +4,6 @@ pub mod bytes;
 pub mod fault;
 pub mod kind;
 pub mod member;
+pub mod reading;
 pub mod row;
 pub mod trace;

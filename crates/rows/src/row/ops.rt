@@ -6,6 +6,7 @@ ghost use mathlib.Core.Bool.{cond};
 ghost use lib.ListN.{length, getD};
 ghost use Rattle.std.specs.Of.Vec.{vec-items};
 ghost use Rattle.std.specs.Vec.{made};
+ghost use Rattle.rows.specs.Bytes.{encode};
 ghost use Rattle.rows.specs.Views.{row-of, blank, with-byte, with-member};
 use crate::member::Member;
 use crate::row::LONGEST_BODY;
@@ -26,6 +27,15 @@ impl Row {
             body,
             members,
         })
+    }
+
+    // Makes this the row with this letter, no body and no members; it keeps its memory.
+    pub fn restart(&mut self, letter: u8)
+        ensures { λ _. ⌜ row-of (now (self .exit)) ≡ blank letter ⌝ }
+    {
+        self.letter = letter;
+        self.body.clear();
+        self.members.clear();
     }
 
     // One byte more of the body; false, and nothing changes, where it is as long as a body can be.
@@ -78,5 +88,12 @@ impl Row {
         ensures { λ r. ⌜ r ≡ getD (row-of (now (self .entry)) .body) i 0 ⌝ }
     {
         if i < self.body.len() { self.body[i] } else { 0 }
+    }
+
+    // How many bytes the row is written in.
+    pub fn bytes_len(&self) -> usize
+        ensures { λ r. ⌜ r ≡ length (encode (row-of (now (self .entry)))) ⌝ }
+    {
+        1 + self.body.len() + 4 * self.members.len()
     }
 }
