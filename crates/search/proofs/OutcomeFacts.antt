@@ -26,24 +26,24 @@ use Rattle.search.proofs.HistoryFacts.{none-fits}
 use Rattle.search.proofs.AnswerFacts.{steps-not-over}
 
 -- what a node comes to
-record Ran : Type 0 where
-  place : Place
-  view : View
-  exhausts : ℕ
-  loses : ℕ
+pub record Ran : Type 0 where
+  pub place : Place
+  pub view : View
+  pub exhausts : ℕ
+  pub loses : ℕ
 
 module _ (s : Behaviour) (m : Meaning) where
   -- ---- the outcome, as functions
 
-  abbrev count-lost : Stored → ℕ → ℕ
+  abbrev pub count-lost : Stored → ℕ → ℕ
   count-lost Kept k = k
   count-lost Lost k = suc k
 
   -- one level more
-  abbrev up : Stored → Ran → Ran
+  abbrev pub up : Stored → Ran → Ran
   up a r = record { place = r .place; view = r .view; exhausts = suc (r .exhausts); loses = count-lost a (r .loses) }
 
-  abbrev backs : List RowData → List Level → View → Ran
+  abbrev pub backs : List RowData → List Level → View → Ran
   backs rows [] v = record { place = none; view = v; exhausts = 0; loses = 0 }
   backs rows (l ∷ ls) v =
       elim (eqb (l .left) 0) [
@@ -51,25 +51,25 @@ module _ (s : Behaviour) (m : Meaning) where
         | true ↦ up (s .answer v (key m rows (l .sets))) (backs rows ls (s .after v (key m rows (l .sets))))
       ]
 
-  abbrev opened : List RowData → List Level → View → Node → Ran
+  abbrev pub opened : List RowData → List Level → View → Node → Ran
   opened rows ls v dead = backs rows ls v
   opened rows ls v (solution p) = record { place = found p; view = v; exhausts = 0; loses = 0 }
   opened rows ls v hit = backs rows ls v
   opened rows ls v (branch l) = record { place = going l ls; view = v; exhausts = 0; loses = 0 }
 
-  abbrev opens : List RowData → List ℕ → List Level → View → Ran
+  abbrev pub opens : List RowData → List ℕ → List Level → View → Ran
   opens rows b ls v = opened rows ls v (node m rows v (below ls) (propagated m rows b))
 
-  abbrev step : List ℕ → List RowData → Place → View → Ran
+  abbrev pub step : List ℕ → List RowData → Place → View → Ran
   step voices rows fresh v = opens rows voices [] v
   step voices rows (going l ls) v = opens rows (child l) (taken l ∷ ls) v
   step voices rows (found p) v = record { place = found p; view = v; exhausts = 0; loses = 0 }
   step voices rows none v = record { place = none; view = v; exhausts = 0; loses = 0 }
 
-  abbrev next : Table → Ran → Table
+  abbrev pub next : Table → Ran → Table
   next t r = record { voices = t .voices; rows = t .rows; place = r .place; opened = t .opened + 1; exhausted = t .exhausted + r .exhausts; lost = t .lost + r .loses }
 
-  abbrev run : ℕ → Table → View → Table × View
+  abbrev pub run : ℕ → Table → View → Table × View
   run zero t v = (t, v)
   run (suc b) t v =
       elim (over (t .place)) [ true ↦ (t, v) | false ↦ run b (next t (step (t .voices) (t .rows) (t .place) v)) (step (t .voices) (t .rows) (t .place) v .view) ]
@@ -130,7 +130,7 @@ module _ (s : Behaviour) (m : Meaning) where
       ∙ ap (λ (r : Ran). run b (next t r) (r .view)) (step-is S (y .0))
       ∙ run-is G (y .1) b (omega arith) (elim e [ inl o ↦ inl o | inr o ↦ inr (omega arith) ])
 
-  abbrev comes : Table → View → Call → Judgement → Answer × Table × View
+  abbrev pub comes : Table → View → Call → Judgement → Answer × Table × View
   comes t v c (declined n) = (Answer.refused n, t, v)
   comes t v (declare x) passes = (Answer.done, begun (t .voices ++ (x ∷ [])) (t .rows), s .emptied v)
   comes t v (post bs) passes = (Answer.done, begun (t .voices) (t .rows ++ (decode m bs ∷ [])), s .emptied v)
@@ -138,7 +138,7 @@ module _ (s : Behaviour) (m : Meaning) where
   comes t v (read buffer) passes = (Answer.wrote (length (result (t .place))) (result (t .place) ++ drop (length (result (t .place))) buffer), t, v)
   comes t v wipe passes = (Answer.done, empty, s .emptied v)
 
-  does-is : {t : Table} {v : View} {c : Call} {a : Answer} {u : Table} {w : View} (D : Does m t v c a u w) → Does-by s D → comes t v c (judged m t c) ≡ (a, u, w)
+  pub does-is : {t : Table} {v : View} {c : Call} {a : Answer} {u : Table} {w : View} (D : Does m t v c a u w) → Does-by s D → comes t v c (judged m t c) ≡ (a, u, w)
   does-is {t} {v} (Does.declines c n j) y = ap (comes t v c) j
   does-is {t} {v} (Does.declares x w j e) y = ap (comes t v (declare x)) j ∙ ap (λ (z : View). (Answer.done, begun (t .voices ++ (x ∷ [])) (t .rows), z)) (sym y)
   does-is {t} {v} (Does.posts bs w j e) y = ap (comes t v (post bs)) j ∙ ap (λ (z : View). (Answer.done, begun (t .voices) (t .rows ++ (decode m bs ∷ [])), z)) (sym y)

@@ -1,0 +1,4 @@
+pub mod Playing
+pub mod Computed
+pub mod Stored
+pub mod Decided
