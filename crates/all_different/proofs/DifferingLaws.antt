@@ -21,7 +21,8 @@ use Rattle.all_different.specs.Differing.{spares, takes, all-different, differ
 use Rattle.narrowing.specs.Shared.{at, cuts, distinct, shaped, declared, settled, open-with}
 use Rattle.sets.proofs.Membership.{has-mask, mask-below, has-above, has-none, has-least, same-sets, ones-less, ones-zero}
 use Rattle.narrowing.proofs.Cuts.{Each, all-each, each-map, each-both, none-each, any-same, all-same, map-same, Declared, Small, proper-small, fixed-place, cuts-small, cuts-narrower, cuts-within, cuts-more, cuts-nothing, squeezed, narrower-refl, narrower-trans}
-use Rattle.narrowing.proofs.Members.{lettered-by, shaped-by, verdict-parts, stays-verdict, accepted-members, at-more, fixed-value, value-place, value-below, Twins, twins, at-twins, same-mark, same-content, checks-by}
+use Rattle.narrowing.proofs.Members.{lettered-by, shaped-by, verdict-parts, stays-verdict, accepted-members, at-more, fixed-value, value-below, Twins, twins, at-twins, same-mark, same-content, checks-by}
+use Rattle.sets.proofs.Lists.{value-place}
 
 -- ---- lists whose elements differ
 

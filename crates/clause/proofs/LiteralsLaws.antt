@@ -18,7 +18,8 @@ use Rattle.clause.specs.Literals.{says, refuted, certain, chosen, units, claus
 use Rattle.narrowing.specs.Shared.{at, shaped, declared, settled, open-with}
 use Rattle.sets.proofs.Membership.{has-sift, has-none, has-below, has-least, sift-below, sift-part, fixed-member}
 use Rattle.narrowing.proofs.Cuts.{Each, each-map, each-both, none-each, any-same, Declared, Small, proper-small, fixed-place, cuts-small, cuts-narrower, cuts-within, cuts-more, cuts-nothing, narrower-refl}
-use Rattle.narrowing.proofs.Members.{lettered-by, shaped-by, verdict-parts, stays-verdict, accepted-members, shaped-long, at-more, value-place, Twins, twins, at-twins, same-mark, checks-by}
+use Rattle.narrowing.proofs.Members.{lettered-by, shaped-by, verdict-parts, stays-verdict, accepted-members, shaped-long, at-more, Twins, twins, at-twins, same-mark, checks-by}
+use Rattle.sets.proofs.Lists.{value-place}
 
 -- ---- the members that are chosen
 

@@ -22,7 +22,8 @@ use Rattle.element.specs.Entries.{index, result, entry, reached, indexed, resu
 use Rattle.narrowing.specs.Shared.{cut, shaped}
 use Rattle.sets.proofs.Membership.{has-least, fixed-member}
 use Rattle.narrowing.proofs.Cuts.{Small, proper-small, fixed-place, cut-small, cut-narrower, cut-within, cut-more, cut-nothing, length-cut, squeezed, narrower-trans}
-use Rattle.narrowing.proofs.Members.{lettered-by, shaped-by, verdict-parts, parts-verdict, value-place, value-below, Twins, twins, Both-fixed, Both-open, at-twins, same-mark, checks-by}
+use Rattle.narrowing.proofs.Members.{lettered-by, shaped-by, verdict-parts, parts-verdict, value-below, Twins, twins, Both-fixed, Both-open, at-twins, same-mark, checks-by}
+use Rattle.sets.proofs.Lists.{value-place}
 
 -- ---- entries
 

@@ -23,7 +23,8 @@ use Rattle.narrowing.specs.Shared.{at, cut, cuts, shaped, declared, settled, op
 use Rattle.linear.specs.Sums.{bound, total, term, low, high, within, linear, linear-rule}
 use Rattle.sets.proofs.Membership.{has-least, has-greatest, least-first, greatest-last, fixed-member}
 use Rattle.narrowing.proofs.Cuts.{Each, all-each, each-map, each-both, Declared, Small, proper-small, fixed-place, cuts-small, cuts-narrower, cuts-within, cuts-more, cuts-nothing}
-use Rattle.narrowing.proofs.Members.{lettered-by, shaped-by, verdict-parts, stays-verdict, accepted-members, shaped-long, at-more, fixed-value, value-place, value-below, Twins, twins, at-twins, same-mark, same-content, checks-by}
+use Rattle.narrowing.proofs.Members.{lettered-by, shaped-by, verdict-parts, stays-verdict, accepted-members, shaped-long, at-more, fixed-value, value-below, Twins, twins, at-twins, same-mark, same-content, checks-by}
+use Rattle.sets.proofs.Lists.{value-place}
 
 -- ---- integers
 

@@ -93,15 +93,6 @@ at-more ms s t d = each-map (λ m. m .voice < length s) (λ m. at (s ++ t) m ≡
 pub fixed-value : (s p : List ℕ) (i : ℕ) → Small s → Within p s → i < length s → fixed (getD s i 0) ≡ true → getD p i 0 ≡ least (getD s i 0)
 fixed-value s p i h w l f = fixed-member (getD s i 0) (getD p i 0) (h i) f (w .each i l)
 
-pub value-place : (s : List ℕ) (i : ℕ) → i < length s → getD (values s) i 0 ≡ least (getD s i 0)
-value-place s i l = getD-map least s i 0 0 l
-
-pub values-within : (s : List ℕ) → Proper s → Within (values s) s
-values-within s h = record {
-  long = length-map s least;
-  each = λ i l. ap (has (getD s i 0)) (value-place s i l) ∙ has-least (getD s i 0) (h i l .0) (h i l .1);
-}
-
 pub value-below : (s p : List ℕ) (i : ℕ) → Small s → Within p s → i < length s → getD p i 0 < 64
 value-below s p i h w l = has-below 64 (getD s i 0) (getD p i 0) (h i) (w .each i l)
 

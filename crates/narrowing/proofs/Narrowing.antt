@@ -17,20 +17,9 @@ use Rattle.narrowing.specs.Shared.{cut, cuts}
 use Rattle.sets.proofs.Membership.{has-sift, sift-below, same-sets, sift-all}
 use Rattle.sets.proofs.Masks.{and-sift}
 use Rattle.narrowing.proofs.Cuts.{Small, squeezed, cuts-small, cuts-narrower, cut-small, cut-narrower}
+use Rattle.sets.proofs.Lists.{same-self, same-is}
 
 -- ---- the same list, and another
-
-pub same-self : (xs : List ℕ) → same xs xs ≡ true
-same-self [] = refl
-same-self (x ∷ xs) = and-from (eqb x x) (same xs xs) (eq-eqb x x refl) (same-self xs)
-
-pub same-is : (xs ys : List ℕ) → same xs ys ≡ true → xs ≡ ys
-same-is [] [] e = refl
-same-is [] (y ∷ ys) e = absurd (both-ways false refl e)
-same-is (x ∷ xs) [] e = absurd (both-ways false refl e)
-same-is (x ∷ xs) (y ∷ ys) e =
-    let p = and-parts (eqb x y) (same xs ys) e in
-    ap₂ {C = List ℕ} (λ (a : ℕ) (b : List ℕ). a ∷ b) (eqb-true x y (p .0)) (same-is xs ys (p .1))
 
 pub unchanged : (xs : List ℕ) → changed xs xs ≡ false
 unchanged xs = ap not (same-self xs)

@@ -16,6 +16,7 @@ use Rattle.sets.specs.Placings.{same, some-empty, all-fixed, values, Proper, Wi
 use Rattle.sets.proofs.Membership.{has-least, part-below, ones-part}
 use Rattle.search.specs.Propagation.{size}
 use Rattle.search.proofs.SetParts.{empty-has, fixed-one}
+use Rattle.sets.proofs.Lists.{values-within}
 
 pub narrow-trans : (u t s : List ℕ) → Narrower u t → Narrower t s → Narrower u s
 narrow-trans u t s a b = record { long = a .long ∙ b .long; each = λ i v h. b .each i v (a .each i v h) }
@@ -86,33 +87,12 @@ size-same (x ∷ t) (y ∷ s) b n h =
     let c = size-le t s (words-tail y s b) tail in
     ap₂ (λ (z : ℕ) (u : List ℕ). z ∷ u) (a .1 (le-antisymm (a .0) (omega (arith, a .0)))) (size-same t s (words-tail y s b) tail (omega (arith, a .0)))
 
--- ---- equal lists
-
-pub same-is : (x y : List ℕ) → same x y ≡ true → x ≡ y
-same-is [] [] h = refl
-same-is [] (b ∷ y) h = absurd (both-ways false refl h)
-same-is (a ∷ x) [] h = absurd (both-ways false refl h)
-same-is (a ∷ x) (b ∷ y) h =
-    let c = and-parts (eqb a b) (same x y) h in
-    ap₂ (λ (z : ℕ) (u : List ℕ). z ∷ u) (eqb-true a b (c .0)) (same-is x y (c .1))
-
-pub same-refl : (x : List ℕ) → same x x ≡ true
-same-refl [] = refl
-same-refl (a ∷ x) = and-from (eqb a a) (same x x) (eq-eqb a a refl) (same-refl x)
-
 -- ---- fixed sets
 
 pub each-fixed : (s : List ℕ) → all-fixed s ≡ true → (i : ℕ) → i < length s → fixed (getD s i 0) ≡ true
 each-fixed [] e i l = absurd (omega arith)
 each-fixed (x ∷ s) e zero l = and-parts (fixed x) (all-fixed s) e .0
 each-fixed (x ∷ s) e (suc i) l = each-fixed s (and-parts (fixed x) (all-fixed s) e .1) i (omega arith)
-
--- the one placing within fixed sets
-pub values-within : (s : List ℕ) → Proper s → Within (values s) s
-values-within s p = record {
-  long = length-map s least;
-  each = λ i l. subst (λ (x : ℕ). has (getD s i 0) x ≡ true) (sym (getD-map least s i 0 0 l)) (has-least (getD s i 0) (p i l .0) (p i l .1));
-}
 
 pub values-only : (s q : List ℕ) → Proper s → all-fixed s ≡ true → Within q s → q ≡ values s
 values-only s q p e w =

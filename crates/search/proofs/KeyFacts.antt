@@ -16,6 +16,7 @@ use Rattle.rows.specs.Laws.{Laws, Alike, Agree}
 use Rattle.stores.specs.Keys.{key, voice-word, voice-words, trace-words}
 use Rattle.search.specs.Placed.{All-accepted, All-hold}
 use Rattle.search.specs.Results.{Projects}
+use Rattle.stores.proofs.Writing.{trace-length}
 
 -- no placing within s for which all rows hold
 abbrev pub Fails : Meaning → List RowData → List ℕ → Type 0
@@ -127,10 +128,6 @@ module _ (m : Meaning) (L : Laws m) where
   key-sound rows n s o a l f t b k e = key-fails rows s t (subst (All-accepted m rows) (sym l) o) a b (l ∙ sym k) (sym e) f
 
 -- ---- the statement
-
-trace-length : (m : Meaning) (s : List ℕ) (rows : List RowData) → length (trace-words m s rows) ≡ 2 * length rows
-trace-length m s [] = refl
-trace-length m s (r ∷ rows) = omega (arith, trace-length m s rows)
 
 key-length : (m : Meaning) (rows : List RowData) (s : List ℕ) → length (key m rows s) ≡ length s + 2 * length rows
 key-length m rows s = omega (arith, length-append (voice-words s) (trace-words m s rows), length-map s voice-word, trace-length m s rows)

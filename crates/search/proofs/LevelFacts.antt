@@ -18,7 +18,8 @@ use Rattle.stores.specs.Stores.{member, View}
 use Rattle.search.specs.Search.{Level, Lowest, below, first-open, level-of, child, taken}
 use Rattle.search.specs.Placed.{All-hold}
 use Rattle.search.proofs.SetParts.{Rest, rest, under, pinned, part-fixed, fixed-one, only-has, only-is, only-bounds}
-use Rattle.search.proofs.Boxes.{narrow-trans, within-narrow, same-is}
+use Rattle.search.proofs.Boxes.{narrow-trans, within-narrow}
+use Rattle.sets.proofs.Lists.{same-is}
 use Rattle.search.proofs.PropagationFacts.{Narrowed}
 use Rattle.search.proofs.KeyFacts.{Fails, alike}
 

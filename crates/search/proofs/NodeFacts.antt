@@ -24,7 +24,8 @@ use Rattle.search.specs.Results.{Stable}
 use Rattle.search.specs.Search.Place.{fresh, going, found, none}
 use Rattle.search.specs.Search.Node.{dead, solution, hit, branch}
 use Rattle.search.proofs.SetParts.{rest, empty-has}
-use Rattle.search.proofs.Boxes.{narrow-refl, within-narrow, empty-none, values-within, values-only, same-is}
+use Rattle.search.proofs.Boxes.{narrow-refl, within-narrow, empty-none, values-only}
+use Rattle.sets.proofs.Lists.{values-within, same-is}
 use Rattle.search.proofs.PropagationFacts.{propagated-ok, stable-holds}
 use Rattle.search.proofs.KeyFacts.{Fails, Sound, key-sound}
 use Rattle.search.proofs.LevelFacts.{Unheld, Chain, Going, fixed-drop, chain-fixed, chain-narrow, chain-inside, chain-least, branch-going, left-bound, child-chain, unheld-after, back-newest}

@@ -13,7 +13,8 @@ use Rattle.rows.specs.Laws.{Laws, Accepted}
 use Rattle.search.specs.Propagation.{Round, round-from, round, rounds, propagated, size}
 use Rattle.search.specs.Placed.{All-accepted, All-hold, Lawful}
 use Rattle.search.specs.Results.{Stable, Propagates}
-use Rattle.search.proofs.Boxes.{narrow-trans, narrow-refl, proper-narrow, proper-full, proper-words, size-le, size-same, same-is, same-refl, within-narrow, values-within, values-only}
+use Rattle.search.proofs.Boxes.{narrow-trans, narrow-refl, proper-narrow, proper-full, proper-words, size-le, size-same, within-narrow, values-only}
+use Rattle.sets.proofs.Lists.{same-self, same-is, values-within}
 
 -- t is s without values that matter
 pub record Narrowed (m : Meaning) (rows : List RowData) (s t : List ℕ) : Type 0 where
@@ -58,7 +59,7 @@ smaller t s p n c =
     elim (cases-lt (size t) (size s)) [
       | inl h ↦ h
       | inr h ↦
-          absurd (both-ways (same t s) (not-true (same t s) c) (subst (λ (x : List ℕ). same t x ≡ true) (size-same t s (proper-words s p) n h) (same-refl t)))
+          absurd (both-ways (same t s) (not-true (same t s) c) (subst (λ (x : List ℕ). same t x ≡ true) (size-same t s (proper-words s p) n h) (same-self t)))
     ]
 
 -- What a round leaves of s. Where another is due, no set is empty and a value was taken out, here or before; where none is, a set is empty, or no turn

@@ -1,3 +1,4 @@
 pub mod Membership
 pub mod Masks
 pub mod Lawful
+pub mod Lists

@@ -16,20 +16,9 @@ use Rattle.stores.specs.Stores.{member, View, Joined, Keeps, fits}
 use Rattle.stores.specs.Shelves.{hash-from, header, written, keys-in, shelved, Whole, shelf-view, shelf-keep, shelf-after}
 use Rattle.stores.specs.declared.store.Stored.{Stored}
 use Rattle.stores.specs.declared.store.Stored.the-variants.{Kept, Lost}
+use Rattle.sets.proofs.Lists.{same-is}
 
 -- ---- the same words
-
-pub same-self : (xs : List ℕ) → same xs xs ≡ true
-same-self [] = refl
-same-self (x ∷ xs) = and-from (eqb x x) (same xs xs) (eq-eqb x x refl) (same-self xs)
-
-pub same-is : (xs ys : List ℕ) → same xs ys ≡ true → xs ≡ ys
-same-is [] [] e = refl
-same-is [] (y ∷ ys) e = absurd (both-ways false refl e)
-same-is (x ∷ xs) [] e = absurd (both-ways false refl e)
-same-is (x ∷ xs) (y ∷ ys) e =
-    let p = and-parts (eqb x y) (same xs ys) e in
-    ap₂ {C = List ℕ} (λ (a : ℕ) (b : List ℕ). a ∷ b) (eqb-true x y (p .0)) (same-is xs ys (p .1))
 
 -- lists that are not equal
 pub same-not : (xs ys : List ℕ) → (xs ≡ ys → ⊥) → same xs ys ≡ false
