@@ -1,3 +1,3 @@
 pub mod Refusals
-pub mod Shown
 pub mod Lasting
+pub mod Shown

@@ -1,22 +1,24 @@
 -- What a table's fields say, and what the code's results say as answers.
 use mathlib.Core.Path.{_≡_}
-use mathlib.Core.List.{List}
+use mathlib.Core.List.{List, []}
 use Prim.Native.Nat.{ℕ}
 use lib.ListN.{take}
 use Rattle.std.specs.Of.Vec.{vec-items}
 use Rattle.std.specs.declared.result.Result.{Result}
 use Rattle.std.specs.declared.result.Result.the-variants.{Ok, Err}
-use Rattle.rows.specs.Rows.{RowData}
+use Rattle.rows.specs.Rows.{RowData, Meaning}
 use Rattle.rows.specs.Views.{rows-of}
 use Rattle.stores.specs.Stores.{View}
 use Rattle.search.specs.Calls as calls
-use Rattle.search.specs.Calls.{Answer, result}
+use Rattle.search.specs.Calls.{Call, Answer, result}
+use Rattle.search.specs.Histories.{History}
 use Rattle.engine.specs.Searches.{place, table-of}
 use Rattle.engine.specs.declared.outcome.Outcome.{Outcome}
 use Rattle.engine.specs.declared.outcome.Outcome.the-variants.{Stopped, Found, None}
 use Rattle.planner.specs.declared.refusal.Refusal.{Refusal}
 use Rattle.planner.specs.declared.table.Table.{Table}
 use Rattle.planner.specs.Refusals.{refusal-number}
+use Rattle.planner.specs.Lasting.{Done, Lasts}
 
 module _ {B S : Type 0} where
   -- the table's rows
@@ -34,6 +36,20 @@ module _ {B S : Type 0} where
   -- the values that it has found
   abbrev pub found-in : Table B S → List ℕ
   found-in t = result (place (t .search))
+
+  -- ---- a call takes the table t with its store to the table u with its store
+
+  -- by what the call is to do
+  abbrev pub Call-done : Meaning → (S → View) → Table B S → Call → Answer → Table B S → Type 0
+  Call-done m view t c a u = Done m (model t) (store-in view t) c a (model u) (store-in view u)
+
+  -- and by what lasts over whole histories of calls
+  abbrev pub Call-lasts : Meaning → (S → View) → Table B S → Call → Answer → Table B S → Type 0
+  Call-lasts m view t c a u = Lasts m (model t) (store-in view t) c a (model u) (store-in view u)
+
+  -- what Make gives: a table with which a history begins
+  abbrev pub Begins : Meaning → (S → View) → Table B S → Type 0
+  Begins m view t = History m [] (model t 0) (store-in view t)
 
 -- ---- answers
 

@@ -7,8 +7,7 @@ ghost use lib.ListN.{length};
 ghost use Rattle.rows.specs.Bytes.{total-bytes};
 ghost use Rattle.search.specs.Limits.{most-rows, most-bytes};
 ghost use Rattle.search.specs.Calls.{Call, Answer};
-ghost use Rattle.planner.specs.Shown.{rows-in, model, store-in, done-answer};
-ghost use Rattle.planner.specs.Lasting.{Done, Lasts};
+ghost use Rattle.planner.specs.Shown.{rows-in, Call-done, Call-lasts, done-answer};
 use crate::refusal::Refusal;
 use crate::refusal::RefusalFromRowFault;
 use crate::table::MOST_BYTES;
@@ -23,8 +22,8 @@ use stores::store::Store;
 impl<B: Bank, S: Store> Table<B, S> {
     // One voice more, with this opening set. The store is emptied, and the search begins again.
     pub fn declare(&mut self, set: ValueSet) -> Result<(), Refusal>
-        ensures does { λ r. ⌜ Done meaning (model (now (self .entry))) (store-in view (now (self .entry))) (Call.declare set) (done-answer r) (model (now (self .exit))) (store-in view (now (self .exit))) ⌝ }
-        ensures lasts { λ r. ⌜ Lasts meaning (model (now (self .entry))) (store-in view (now (self .entry))) (Call.declare set) (done-answer r) (model (now (self .exit))) (store-in view (now (self .exit))) ⌝ }
+        ensures does { λ r. ⌜ Call-done meaning view (now (self .entry)) (Call.declare set) (done-answer r) (now (self .exit)) ⌝ }
+        ensures lasts { λ r. ⌜ Call-lasts meaning view (now (self .entry)) (Call.declare set) (done-answer r) (now (self .exit)) ⌝ }
     {
         if set == 0 {
             return Err(Refusal::EmptySet);
@@ -50,8 +49,8 @@ impl<B: Bank, S: Store> Table<B, S> {
 
     // One row more, from its bytes. The store is emptied, and the search begins again.
     pub fn post(&mut self, bytes: &[u8]) -> Result<(), Refusal>
-        ensures does { λ r. ⌜ Done meaning (model (now (self .entry))) (store-in view (now (self .entry))) (Call.post (now (bytes .entry))) (done-answer r) (model (now (self .exit))) (store-in view (now (self .exit))) ⌝ }
-        ensures lasts { λ r. ⌜ Lasts meaning (model (now (self .entry))) (store-in view (now (self .entry))) (Call.post (now (bytes .entry))) (done-answer r) (model (now (self .exit))) (store-in view (now (self .exit))) ⌝ }
+        ensures does { λ r. ⌜ Call-done meaning view (now (self .entry)) (Call.post (now (bytes .entry))) (done-answer r) (now (self .exit)) ⌝ }
+        ensures lasts { λ r. ⌜ Call-lasts meaning view (now (self .entry)) (Call.post (now (bytes .entry))) (done-answer r) (now (self .exit)) ⌝ }
     {
         let voices = self.voices.len();
         accept_bytes::<B>(bytes, voices, &mut self.rows[self.posted])?;
@@ -67,8 +66,8 @@ impl<B: Bank, S: Store> Table<B, S> {
 
     // No voices and no rows. The store is emptied.
     pub fn wipe(&mut self)
-        ensures does { λ _. ⌜ Done meaning (model (now (self .entry))) (store-in view (now (self .entry))) Call.wipe Answer.done (model (now (self .exit))) (store-in view (now (self .exit))) ⌝ }
-        ensures lasts { λ _. ⌜ Lasts meaning (model (now (self .entry))) (store-in view (now (self .entry))) Call.wipe Answer.done (model (now (self .exit))) (store-in view (now (self .exit))) ⌝ }
+        ensures does { λ _. ⌜ Call-done meaning view (now (self .entry)) Call.wipe Answer.done (now (self .exit)) ⌝ }
+        ensures lasts { λ _. ⌜ Call-lasts meaning view (now (self .entry)) Call.wipe Answer.done (now (self .exit)) ⌝ }
     {
         self.voices.clear();
         self.posted = 0;

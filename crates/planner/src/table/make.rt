@@ -1,10 +1,8 @@
 // A table made, with all its memory.
 ghost use mathlib.Core.Path.{_≡_};
-ghost use mathlib.Core.List.{[]};
 ghost use Rattle.std.specs.Of.Vec.{vec-len};
 ghost use Rattle.std.specs.Vec.{made};
-ghost use Rattle.search.specs.Histories.{History};
-ghost use Rattle.planner.specs.Shown.{model, store-in};
+ghost use Rattle.planner.specs.Shown.{Begins};
 use crate::table::MOST_ROWS;
 use crate::table::MOST_VOICES;
 use crate::table::Table;
@@ -30,7 +28,7 @@ fn make_rows(heap: Global) -> Result<Vec<Row>, AllocError>
 impl<B: Bank, S: Store + Drop> Table<B, S> {
     // A table with no voices and no rows, over a store that holds nothing then.
     pub fn make(heap: Global, store: S) -> Result<Table<B, S>, AllocError>
-        ensures { λ r. ⌜ made r (λ t. History meaning [] (model t 0) (store-in view t)) ⌝ }
+        ensures { λ r. ⌜ made r (λ t. Begins meaning view t) ⌝ }
     {
         let voices = Vec::with_capacity(heap, MOST_VOICES)?;
         let rows = make_rows(heap)?;

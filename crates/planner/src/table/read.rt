@@ -1,7 +1,6 @@
 // What was found, read.
 ghost use Rattle.search.specs.Calls.{Call};
-ghost use Rattle.planner.specs.Shown.{model, store-in, read-answer, Left-alone};
-ghost use Rattle.planner.specs.Lasting.{Done, Lasts};
+ghost use Rattle.planner.specs.Shown.{Call-done, Call-lasts, read-answer, Left-alone};
 use crate::refusal::Refusal;
 use crate::table::Table;
 use engine::outcome::Outcome;
@@ -12,8 +11,8 @@ use stores::store::Store;
 impl<B: Bank, S: Store> Table<B, S> {
     // Writes the found values at the front of `out`, and answers how many; bytes beyond them stay.
     pub fn read(&self, out: &mut [u8]) -> Result<usize, Refusal>
-        ensures does { λ r. ⌜ Done meaning (model (now (self .entry))) (store-in view (now (self .entry))) (Call.read (now (out .entry))) (read-answer r (now (out .exit))) (model (now (self .entry))) (store-in view (now (self .entry))) ⌝ }
-        ensures lasts { λ r. ⌜ Lasts meaning (model (now (self .entry))) (store-in view (now (self .entry))) (Call.read (now (out .entry))) (read-answer r (now (out .exit))) (model (now (self .entry))) (store-in view (now (self .entry))) ⌝ }
+        ensures does { λ r. ⌜ Call-done meaning view (now (self .entry)) (Call.read (now (out .entry))) (read-answer r (now (out .exit))) (now (self .entry)) ⌝ }
+        ensures lasts { λ r. ⌜ Call-lasts meaning view (now (self .entry)) (Call.read (now (out .entry))) (read-answer r (now (out .exit))) (now (self .entry)) ⌝ }
         ensures buffer { λ r. ⌜ Left-alone r (now (out .entry)) (now (out .exit)) ⌝ }
     {
         match self.search.outcome() {

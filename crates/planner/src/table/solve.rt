@@ -1,8 +1,7 @@
 // A table searched.
 ghost use mathlib.Core.Path.{_≡_};
 ghost use Rattle.search.specs.Calls.{Call};
-ghost use Rattle.planner.specs.Shown.{model, store-in, found-in, solve-answer};
-ghost use Rattle.planner.specs.Lasting.{Done, Lasts};
+ghost use Rattle.planner.specs.Shown.{model, found-in, Call-done, Call-lasts, solve-answer};
 use crate::refusal::Refusal;
 use crate::table::Table;
 use engine::outcome::Outcome;
@@ -17,8 +16,8 @@ const MOST_OPENED: u64 = 1_000_000_000_000;
 impl<B: Bank, S: Store> Table<B, S> {
     // Opens nodes until the search is over, and at most `budget` of them. Found values are read by `read`.
     pub fn solve(&mut self, budget: u64) -> Result<Outcome, Refusal>
-        ensures does { λ r. ⌜ Done meaning (model (now (self .entry))) (store-in view (now (self .entry))) (Call.solve budget) (solve-answer r (found-in (now (self .exit)))) (model (now (self .exit))) (store-in view (now (self .exit))) ⌝ }
-        ensures lasts { λ r. ⌜ Lasts meaning (model (now (self .entry))) (store-in view (now (self .entry))) (Call.solve budget) (solve-answer r (found-in (now (self .exit)))) (model (now (self .exit))) (store-in view (now (self .exit))) ⌝ }
+        ensures does { λ r. ⌜ Call-done meaning view (now (self .entry)) (Call.solve budget) (solve-answer r (found-in (now (self .exit)))) (now (self .exit)) ⌝ }
+        ensures lasts { λ r. ⌜ Call-lasts meaning view (now (self .entry)) (Call.solve budget) (solve-answer r (found-in (now (self .exit)))) (now (self .exit)) ⌝ }
     {
         if budget == 0 || budget > MOST_BUDGET {
             return Err(Refusal::BudgetRange);
