@@ -36,7 +36,7 @@ fn take_child(trail: &[ValueSet], levels: &mut [LevelRecord], depth: usize, sets
 }
 
 // Opens the root, or the next child of the newest level.
-pub fn advance<B: Bank, S: Store>(
+pub(crate) fn advance<B: Bank, S: Store>(
     rows: &[Row],
     voices: &[ValueSet],
     sets: &mut [ValueSet],

@@ -12,7 +12,7 @@ use sets::ValueSet;
 use stores::store::Store;
 
 // Gives the store the key of each level that has no value left to try, from the newest of `depth` on, and says how many levels stay.
-pub fn back_up<B: Bank, S: Store>(
+pub(crate) fn back_up<B: Bank, S: Store>(
     rows: &[Row],
     n: usize,
     trail: &[ValueSet],

@@ -13,7 +13,7 @@ use stores::store::Store;
 use stores::store::Stored;
 
 // Whether the store holds the key of these sets. `words` has room for it.
-pub fn find_key<B: Bank, S: Store>(
+pub(crate) fn find_key<B: Bank, S: Store>(
     rows: &[Row],
     sets: &[ValueSet],
     words: &mut [u64],
@@ -29,7 +29,7 @@ pub fn find_key<B: Bank, S: Store>(
 }
 
 // Gives the key of the n sets in the trail, from `at` on, to the store.
-pub fn keep_key<B: Bank, S: Store>(
+pub(crate) fn keep_key<B: Bank, S: Store>(
     rows: &[Row],
     n: usize,
     trail: &[ValueSet],

@@ -32,7 +32,7 @@ fn fixed_below(levels: &[LevelRecord], depth: usize) -> usize
 }
 
 // Opens the node with these sets, below the first `depth` levels.
-pub fn open_node<B: Bank, S: Store>(
+pub(crate) fn open_node<B: Bank, S: Store>(
     rows: &[Row],
     sets: &mut [ValueSet],
     words: &mut [u64],

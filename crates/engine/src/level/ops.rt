@@ -12,7 +12,7 @@ use sets::least_value;
 use sets::single;
 
 // Takes the least value that is left to try out of a level, and answers the set of that value alone.
-pub fn advance_level(level: &mut LevelRecord) -> ValueSet
+pub(crate) fn advance_level(level: &mut LevelRecord) -> ValueSet
     ensures value { λ r. ⌜ r ≡ cond (eqb (now (level .entry) .left) 0) 0 (only (least (now (level .entry) .left))) ⌝ }
     ensures after { λ _. ⌜ now (level .exit) ≡ record-taken (now (level .entry)) ⌝ }
 {
@@ -22,7 +22,7 @@ pub fn advance_level(level: &mut LevelRecord) -> ValueSet
 }
 
 // Writes a level's sets into the trail, from `at` on.
-pub fn write_level(trail: &mut [ValueSet], at: usize, sets: &[ValueSet])
+pub(crate) fn write_level(trail: &mut [ValueSet], at: usize, sets: &[ValueSet])
     requires { ⌜ at + length (now sets) ≤ length (now trail) ⌝ }
     ensures here { λ _. ⌜ take (length (now (sets .entry))) (drop at (now (trail .exit))) ≡ now (sets .entry) ⌝ }
     ensures below { λ _. ⌜ take at (now (trail .exit)) ≡ take at (now (trail .entry)) ⌝ }
@@ -32,7 +32,7 @@ pub fn write_level(trail: &mut [ValueSet], at: usize, sets: &[ValueSet])
 }
 
 // Reads a level's sets from the trail, from `at` on.
-pub fn read_level(trail: &[ValueSet], at: usize, sets: &mut [ValueSet])
+pub(crate) fn read_level(trail: &[ValueSet], at: usize, sets: &mut [ValueSet])
     requires { ⌜ at + length (now sets) ≤ length (now trail) ⌝ }
     ensures { λ _. ⌜ now (sets .exit) ≡ take (length (now (sets .entry))) (drop at (now (trail .entry))) ⌝ }
 {

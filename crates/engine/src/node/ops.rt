@@ -17,7 +17,7 @@ use sets::is_fixed;
 use stores::store::Store;
 
 // The first voice from `from` on that is not fixed.
-pub fn first_open(sets: &[ValueSet], from: usize) -> usize
+pub(crate) fn first_open(sets: &[ValueSet], from: usize) -> usize
     ensures { λ r. ⌜ r ≡ first-open from (drop from (now (sets .entry))) ⌝ }
 {
     let mut i = from;
@@ -31,7 +31,7 @@ pub fn first_open(sets: &[ValueSet], from: usize) -> usize
 }
 
 // Propagates the sets and says what the node is, where its voices below k are fixed.
-pub fn classify<B: Bank, S: Store>(
+pub(crate) fn classify<B: Bank, S: Store>(
     rows: &[Row],
     sets: &mut [ValueSet],
     words: &mut [u64],
