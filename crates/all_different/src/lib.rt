@@ -1,4 +1,6 @@
 // The kind A, all different: the values of a row's members differ.
+#![tactic(auto)]
+
 ghost use Rattle.std.specs.Prelude.{◌≡◌, map, nat_eq, unsigned_abs};
 ghost use Rattle.sets.specs.Placings.{all, any, changed};
 ghost use Rattle.narrowing.specs.Shared.{at, cuts, distinct};

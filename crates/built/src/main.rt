@@ -1,4 +1,6 @@
 // A row built with a ticket and posted, another begun and scrapped, and the table solved.
+#![tactic(auto)]
+
 use all_different::AllDifferent;
 use building::refusal::BuildRefusal;
 use building::steps::{begin, close, give_member, scrap};

@@ -1,4 +1,6 @@
 // Searches and refusals, worked through.
+#![tactic(auto)]
+
 ghost use Rattle.cases.specs.Shelving.{StoresBehave};
 ghost use Rattle.cases.specs.Leading.{CallsDecide};
 ghost use Rattle.cases.specs.Searches.{SearchesStand};

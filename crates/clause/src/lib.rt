@@ -1,4 +1,6 @@
 // The kind C: some literal is true. A literal is a member; its argument a says "the value is a" below 64, and "the value is not a - 64" from there on.
+#![tactic(auto)]
+
 ghost use Rattle.std.specs.Prelude.{◌≡◌, false, take};
 ghost use Rattle.sets.specs.Sets.{mask};
 ghost use Rattle.sets.specs.Placings.{all, any, changed};

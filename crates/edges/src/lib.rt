@@ -1,4 +1,6 @@
 // Tests at the edges of the kinds' rules and of the stores, and small searches through the table's calls.
+#![tactic(auto)]
+
 #[cfg(test)]
 mod kinds_at_edges;
 #[cfg(test)]

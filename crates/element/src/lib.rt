@@ -1,5 +1,7 @@
 // The kind E: the result is the entry that the index names. The entries are the members' arguments, in order; the index voice and the result voice
 // stand in the body.
+#![tactic(auto)]
+
 ghost use Rattle.std.specs.Prelude.{◌≡◌, ◌&&◌, length, if◌then◌else◌, ◌==◌, nat_lt, unsigned_abs};
 ghost use Rattle.sets.specs.Sets.{has, mask};
 ghost use Rattle.sets.specs.Placings.{all, changed};

@@ -1,4 +1,6 @@
 // The search over memory that is there: what a node is, backing up, opening a node, one node after the other.
+#![tactic(auto)]
+
 pub mod advance;
 pub mod back;
 pub mod keys;

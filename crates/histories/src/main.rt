@@ -1,4 +1,6 @@
 // Plays the history of calls that standard input has, one call a line, over three stores, and prints every answer.
+#![tactic(auto)]
+
 use kinds::FourKinds;
 use parse::parse_calls;
 use played::call::Call;

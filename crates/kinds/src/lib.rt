@@ -1,4 +1,6 @@
 // The four kinds of rows side by side, and a table of cases.
+#![tactic(auto)]
+
 ghost use Rattle.kinds.specs.Cases.{CasesStand};
 
 use all_different::AllDifferent;

@@ -1,4 +1,6 @@
 // The kind L: the sum of coefficient × value over a row's members is at most a bound.
+#![tactic(auto)]
+
 ghost use Rattle.std.specs.Prelude.{◌≡◌, ◌*◌, ◌^◌, map, length, take, pos, ◌*ℤ◌, int_le, nat_le, unsigned_abs};
 ghost use Rattle.sets.specs.Sets.{mask};
 ghost use Rattle.sets.specs.Placings.{all};

@@ -1,4 +1,6 @@
 // What the kinds share: a voice's set, a cut of it, the shape of a row and its voices.
+#![tactic(auto)]
+
 ghost use Rattle.std.specs.Prelude.{◌≡◌, nat_lt, slice_index};
 ghost use Rattle.sets.specs.Sets.{has};
 ghost use Rattle.sets.specs.Placings.{all, changed};

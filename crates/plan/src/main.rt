@@ -1,4 +1,6 @@
 // Narrows a built-in title, and then solves it over a shelf, a few nodes at a time.
+#![tactic(auto)]
+
 use narrow::narrow_title;
 use solve::solve_title;
 use std::io;

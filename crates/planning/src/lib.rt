@@ -1,4 +1,6 @@
 // The whole job of the program: a sheet loaded, solved and reported.
+#![tactic(auto)]
+
 ghost use Rattle.std.specs.Prelude.{◌≡◌, take, IfOk};
 ghost use Rattle.planner.specs.Shown.{model};
 ghost use Rattle.sheets.specs.Loading.{load_answer};

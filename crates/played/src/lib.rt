@@ -1,4 +1,6 @@
 // Whole histories of calls, played on a table.
+#![tactic(auto)]
+
 pub mod call;
 pub mod perform;
 pub mod play;

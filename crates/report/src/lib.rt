@@ -1,4 +1,6 @@
 // Reports: what the program `plan` prints, as bytes.
+#![tactic(auto)]
+
 ghost use Rattle.std.specs.Prelude.{◌≡◌, ◌≤◌, length, take};
 ghost use Rattle.writing.specs.Written.{Piece};
 ghost use Rattle.search.specs.Limits.{most_voices};

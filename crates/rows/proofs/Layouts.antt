@@ -6,7 +6,7 @@ use Rattle.std.proofs.lemmas.Bool.{both_ways, and_parts, and_from, eqb-true, eq-
 use Rattle.std.proofs.lemmas.List.{length-append, length-drop, take-append-drop, take_at, drop_at, get_or_append_left}
 use Rattle.rows.specs.declared.member.Member.{Member}
 use Rattle.rows.specs.Rows.{RowData, Meaning}
-use Rattle.rows.specs.Bytes.{Bytes, count_byte, head_length, marked, members_in, decode, member_bytes, encode, MembersFit, Laid_out, Layout}
+use Rattle.rows.specs.Bytes.{Bytes, count_byte, head_length, marked, members_in, decode, member_bytes, encode, MembersFit, LaidOut, Layout}
 
 -- ---- bytes one by one
 
@@ -102,7 +102,7 @@ some_body : (body : List ℕ) → 1 ≤ get_or body 0 0 → 0 < length body
 some_body [] h = absurd (omega arith)
 some_body (x ∷ body) h = omega arith
 
-write_row : (m : Meaning) (r : RowData) → Laid_out m r → Bytes (encode r) × Layout m (encode r) × (decode m (encode r) ≡ r)
+write_row : (m : Meaning) (r : RowData) → LaidOut m r → Bytes (encode r) × Layout m (encode r) × (decode m (encode r) ≡ r)
 write_row m r o =
     let mb = member_bytes r.members in
     let w = write_members r.members o.members_fit in
@@ -134,7 +134,7 @@ front zero (x ∷ y ∷ []) l a b h = absurd (omega arith)
 front zero (x ∷ y ∷ z ∷ []) l a b h = absurd (omega arith)
 front zero (x ∷ y ∷ z ∷ w ∷ bs) l a b h = absurd (omega (arith, eqb-true x 0x4D (and_parts (eqb x 0x4D) (marked bs) h).0))
 
-read_row : (m : Meaning) (bs : List ℕ) → Bytes bs → Layout m bs → Laid_out m (decode m bs) × (encode (decode m bs) ≡ bs)
+read_row : (m : Meaning) (bs : List ℕ) → Bytes bs → Layout m bs → LaidOut m (decode m bs) × (encode (decode m bs) ≡ bs)
 read_row m [] h o = absurd (both_ways false refl (and_parts (ltb 0 0) (m.known 0) o.letters).0)
 read_row m (a ∷ bs) h o =
     let k = m.body_length a in
@@ -163,6 +163,6 @@ read_row m (a ∷ bs) h o =
     )
 
 pub bytes_both_ways : (m : Meaning)
-    → ((r : RowData) → Laid_out m r → Bytes (encode r) × Layout m (encode r) × (decode m (encode r) ≡ r))
-    × ((bs : List ℕ) → Bytes bs → Layout m bs → Laid_out m (decode m bs) × (encode (decode m bs) ≡ bs))
+    → ((r : RowData) → LaidOut m r → Bytes (encode r) × Layout m (encode r) × (decode m (encode r) ≡ r))
+    × ((bs : List ℕ) → Bytes bs → Layout m bs → LaidOut m (decode m bs) × (encode (decode m bs) ≡ bs))
 bytes_both_ways m = (write_row m, read_row m)

@@ -1,14 +1,15 @@
 -- The steps of reading a row from bytes.
-use Rattle.std.proofs.Common.{◌≡◌, ℕ, zero, suc, ◌+◌, ◌-◌, ◌*◌, ◌<◌, ◌≤◌, Bool, true, false, cond, ◌&&◌, ltb, leb, List, [], ◌∷◌, ◌++◌, length, get_or, take, drop, is_ok, Ok, Result, sym, refl, ap, ◌∙◌, append_assoc, arith, w16, to_z}
-use Rattle.std.proofs.lemmas.Bool.{eq-eqb, ltb-true, ltb-false, eqb-true, leb-true, and_parts, cond_both}
+use Rattle.std.proofs.Common.{◌≡◌, ℕ, zero, suc, ◌+◌, ◌-◌, ◌*◌, ◌<◌, ◌≤◌, Bool, true, false, cond, ◌&&◌, ltb, leb, List, [], ◌∷◌, ◌++◌, length, get_or, take, drop, is_ok, Ok, Err, Result, sym, refl, ap, ◌∙◌, append_assoc, arith, w16, to_z}
+use Rattle.std.proofs.lemmas.Bool.{eq-eqb, ltb-true, ltb-false, eqb-true, leb-true, and_parts, both_ways, cond_both}
 use Rattle.std.proofs.lemmas.List.{take_rest, take_all, take_at, append-nil, length_push, length-drop, length-take, drop_more, drop_all}
 use Rattle.rows.specs.declared.fault.RowFault.{RowFault}
-use Rattle.rows.specs.declared.fault.RowFault.TheVariants.{UnknownLetter, BadCount, WrongLength, UnmarkedMember}
+use Rattle.rows.specs.declared.fault.RowFault.TheVariants.{UnknownLetter, BadCount, WrongLength, UnmarkedMember, Declined}
+use Rattle.rows.specs.declared.fault.Fault.{Fault}
 use Rattle.rows.specs.declared.member.Member.{Member}
 use Rattle.rows.specs.Rows.{RowData, Meaning}
 use Rattle.rows.specs.Laws.{Laws}
 use Rattle.rows.specs.Bytes.{letter_byte, count_byte, head_length, lettered, counted, long_enough, marked, Layout, members_in, decode, member_bytes}
-use Rattle.rows.specs.Reading.{checked, layout, layout_fault, row_after, with_bytes, with_members_in}
+use Rattle.rows.specs.Reading.{checked, layout, layout_fault, of_kind, row_verdict, row_after, with_bytes, with_members_in}
 use Rattle.rows.specs.Views.{blank, with_byte, with_member}
 
 -- ---- members of four bytes
@@ -162,6 +163,63 @@ layout_passed m bs x y e =
     let d = checked_passed (marked (drop (head_length m bs) bs)) UnmarkedMember (Ok y) x c.1 in
     let f = d.1 in
     (record { letters = a.0; counts = b.0; long = c.0; marks = d.0 }, cc)
+
+-- the first fault is the same whatever comes next
+without_value : Result ℕ RowFault → Result Unit RowFault
+without_value (Ok x) = Ok tt
+without_value (Err e) = Err e
+
+faults_same : (a b c d : Bool) (y : ℕ)
+    → without_value (checked a UnknownLetter (checked b BadCount (checked c WrongLength (checked d UnmarkedMember (Ok y)))))
+    ≡ checked a UnknownLetter (checked b BadCount (checked c WrongLength (checked d UnmarkedMember (Ok tt))))
+unfolding without_value
+faults_same false b c d y = refl
+faults_same true false c d y = refl
+faults_same true true false d y = refl
+faults_same true true true false y = refl
+faults_same true true true true y = refl
+
+pub layout_failed : (m : Meaning) (bs : List ℕ) (y : ℕ) (e : RowFault) → Err e ≡ layout m bs (Ok y) → layout_fault m bs ≡ Err e
+unfolding without_value
+layout_failed m bs y e h =
+    sym (ap without_value h ∙ faults_same (lettered m bs) (counted bs) (long_enough m bs) (marked (drop (head_length m bs) bs)) y)
+
+-- what is left of a row that has a fault
+pub row_unread : (m : Meaning) (bs : List ℕ) (y : ℕ) (e : RowFault) (before : RowData) → Err e ≡ layout m bs (Ok y) → before ≡ row_after m bs before
+row_unread m bs y e before h = sym (ap (λ (r : Result Unit RowFault). cond (is_ok r) (decode m bs) before) (layout_failed m bs y e h))
+
+-- what comes after a fault, and after none
+abbrev faultless : Result Unit RowFault
+faultless = Ok tt
+
+after_fault : (a b c d : Bool) (next : Result Unit RowFault) (e : RowFault)
+    → Err e ≡ checked a UnknownLetter (checked b BadCount (checked c WrongLength (checked d UnmarkedMember faultless)))
+    → checked a UnknownLetter (checked b BadCount (checked c WrongLength (checked d UnmarkedMember next))) ≡ Err e
+after_fault false b c d next e h = sym h
+after_fault true false c d next e h = sym h
+after_fault true true false d next e h = sym h
+after_fault true true true false next e h = sym h
+after_fault true true true true next e h = absurd (both_ways false refl (ap is_ok h))
+
+after_none : (a b c d : Bool) (next : Result Unit RowFault)
+    → faultless ≡ checked a UnknownLetter (checked b BadCount (checked c WrongLength (checked d UnmarkedMember faultless)))
+    → checked a UnknownLetter (checked b BadCount (checked c WrongLength (checked d UnmarkedMember next))) ≡ next
+after_none false b c d next h = absurd (both_ways true (ap is_ok h) refl)
+after_none true false c d next h = absurd (both_ways true (ap is_ok h) refl)
+after_none true true false d next h = absurd (both_ways true (ap is_ok h) refl)
+after_none true true true false next h = absurd (both_ways true (ap is_ok h) refl)
+after_none true true true true next h = refl
+
+pub verdict_failed : (m : Meaning) (bs : List ℕ) (voices : ℕ) (e : RowFault) → Err e ≡ layout_fault m bs → row_verdict m bs voices ≡ Err e
+verdict_failed m bs voices e h =
+    after_fault (lettered m bs) (counted bs) (long_enough m bs) (marked (drop (head_length m bs) bs)) (of_kind (m.accepts (decode m bs) voices)) e h
+
+pub verdict_declined : (m : Meaning) (bs : List ℕ) (voices : ℕ) (f : Fault) (row before : RowData)
+    → Ok tt ≡ layout_fault m bs → row ≡ row_after m bs before → Err f ≡ m.accepts row voices → row_verdict m bs voices ≡ Err (Declined f)
+verdict_declined m bs voices f row before h r e =
+    let is : row ≡ decode m bs = r ∙ sym (ap (λ (x : Result Unit RowFault). cond (is_ok x) (decode m bs) before) h) in
+    after_none (lettered m bs) (counted bs) (long_enough m bs) (marked (drop (head_length m bs) bs)) (of_kind (m.accepts (decode m bs) voices)) h
+    ∙ sym (ap of_kind (e ∙ ap (λ (x : RowData). m.accepts x voices) is))
 
 pub layout_right : (m : Meaning) (bs : List ℕ) → Layout m bs → layout_fault m bs ≡ Ok tt
 layout_right m bs o = layout_marks m bs (Ok tt) true o.letters o.counts o.long o.marks

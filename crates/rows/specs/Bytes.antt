@@ -91,7 +91,7 @@ MembersFit [] = Unit {0}
 MembersFit (x ∷ xs) = (x.voice < 256) × FitsSigned w16 x.argument × MembersFit xs
 
 -- a row of the shape that its letter asks, whose numbers fit their bytes
-pub record Laid_out (m : Meaning) (r : RowData) : Type 0 where
+pub record LaidOut (m : Meaning) (r : RowData) : Type 0 where
   pub shape : Shaped m r
   pub letter_fits : r.letter < 256
   pub body_fits : Bytes r.body
@@ -100,5 +100,5 @@ pub record Laid_out (m : Meaning) (r : RowData) : Type 0 where
 -- Such rows and the bytes of the layout stand for each other.
 abbrev pub BytesBothWays : Type 0
 BytesBothWays = (m : Meaning)
-    → ((r : RowData) → Laid_out m r → Bytes (encode r) × Layout m (encode r) × (decode m (encode r) ≡ r))
-    × ((bs : List ℕ) → Bytes bs → Layout m bs → Laid_out m (decode m bs) × (encode (decode m bs) ≡ bs))
+    → ((r : RowData) → LaidOut m r → Bytes (encode r) × Layout m (encode r) × (decode m (encode r) ≡ r))
+    × ((bs : List ℕ) → Bytes bs → Layout m bs → LaidOut m (decode m bs) × (encode (decode m bs) ≡ bs))

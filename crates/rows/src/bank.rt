@@ -4,7 +4,6 @@ ghost use Rattle.sets.specs.Placings.{changed};
 ghost use Rattle.rows.specs.Rows.{Meaning, alone, beside};
 ghost use Rattle.rows.specs.Laws.{Laws};
 ghost use Rattle.rows.specs.Views.{row_of};
-ghost use Rattle.std.proofs.Common.{rules};
 ghost use Rattle.rows.specs.SideBySide.{beside_lawful};
 
 use crate::fault::Fault;
@@ -47,7 +46,7 @@ pub struct Alone<K> {
 impl<K: Kind> Bank for Alone<K> {
     ghost meaning = { alone K.Kind.meaning };
 
-    ghost lawful = { Prim.search rules };
+    ghost lawful = { K.Kind.lawful };
 
     fn body_length(letter: u8) -> Option<usize> {
         if letter == K::letter_code() {

@@ -1,4 +1,6 @@
 // Rows (constraints), what a kind of rows and a bank of kinds owe, and two banks side by side.
+#![tactic(auto)]
+
 pub mod bank;
 pub mod bytes;
 pub mod fault;

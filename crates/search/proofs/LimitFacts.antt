@@ -4,7 +4,7 @@ use Rattle.std.proofs.lemmas.Bool.{both_ways, or_parts, and_cases, leb-false, lt
 use Rattle.std.proofs.lemmas.List.{length_push}
 use Rattle.sets.specs.Placings.{Proper}
 use Rattle.rows.specs.Rows.{RowData, Meaning}
-use Rattle.rows.specs.Bytes.{head_length, lettered, counted, long_enough, marked, decode, encode, total_bytes, Laid_out, Layout}
+use Rattle.rows.specs.Bytes.{head_length, lettered, counted, long_enough, marked, decode, encode, total_bytes, LaidOut, Layout}
 use Rattle.rows.proofs.Layouts.{bytes_both_ways}
 use Rattle.stores.specs.Stores.{View}
 use Rattle.search.specs.Limits.{most_voices, most_rows, most_bytes, most_opened}
@@ -19,7 +19,7 @@ total_push : (rows : List RowData) (r : RowData) → total_bytes (rows ++ (r ∷
 total_push [] r = omega arith
 total_push (x ∷ rows) r = omega (arith, total_push rows r)
 
-laid_out_push : (m : Meaning) (rows : List RowData) (r : RowData) → AllLaidOut m rows → Laid_out m r → AllLaidOut m (rows ++ (r ∷ []))
+laid_out_push : (m : Meaning) (rows : List RowData) (r : RowData) → AllLaidOut m rows → LaidOut m r → AllLaidOut m (rows ++ (r ∷ []))
 laid_out_push m [] r a o = (o, tt)
 laid_out_push m (x ∷ rows) r a o = (a.0, laid_out_push m rows r a.1 o)
 

@@ -3,7 +3,7 @@ use Rattle.std.specs.Prelude.{◌≡◌, ℕ, ◌+◌, ◌*◌, ◌<◌, ◌≤�
 use Rattle.sets.specs.Placings.{all, some_empty, Proper, Within, Narrower}
 use Rattle.rows.specs.Rows.{RowData, Meaning}
 use Rattle.rows.specs.Laws.{Alike, Agree}
-use Rattle.rows.specs.Bytes.{Bytes, Laid_out, total_bytes}
+use Rattle.rows.specs.Bytes.{Bytes, LaidOut, total_bytes}
 use Rattle.stores.specs.Stores.{View}
 use Rattle.search.specs.Limits.{most_voices, most_rows, most_bytes, most_opened}
 use Rattle.search.specs.Propagation.{rounds, size}
@@ -54,7 +54,7 @@ pub record Stands (m : Meaning) (t : Table) (v : View) : Type 0 where
 -- every row has the bank's layout
 abbrev pub AllLaidOut : Meaning → List RowData → Type 0
 AllLaidOut m [] = Unit {0}
-AllLaidOut m (r ∷ rows) = Laid_out m r × AllLaidOut m rows
+AllLaidOut m (r ∷ rows) = LaidOut m r × AllLaidOut m rows
 
 -- a table within its limits
 pub record Limited (m : Meaning) (t : Table) : Type 0 where

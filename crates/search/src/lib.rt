@@ -1,3 +1,5 @@
 // The search for a title's least lawful placing.
+#![tactic(auto)]
+
 pub mod propagation;
 pub mod theorems;

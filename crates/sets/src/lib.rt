@@ -1,4 +1,6 @@
 // Sets of the values 0 to 63 (domains of variables), as masks of 64 bits: bit v is set where the value v is in the set.
+#![tactic(auto)]
+
 ghost use Rattle.std.specs.Prelude.{◌≡◌, ◌-◌, not, if◌then◌else◌, Some, None, ◌==◌, nat_eq, nat_le};
 ghost use Rattle.sets.specs.Sets.{has, fixed, least, greatest, only, mask, sift};
 ghost use Rattle.sets.specs.Laws.{SetLaws};

@@ -5,7 +5,7 @@ use Rattle.std.proofs.lemmas.Bool.{both_ways, and_from, and_parts, or_from, or_p
 use Rattle.sets.specs.Placings.{Proper}
 use Rattle.rows.specs.Rows.{RowData, Meaning, Verdict}
 use Rattle.rows.specs.Laws.{Laws, Accepted}
-use Rattle.rows.specs.Bytes.{letter_byte, count_byte, head_length, lettered, counted, long_enough, marked, Layout, Laid_out, decode, encode, member_bytes, total_bytes}
+use Rattle.rows.specs.Bytes.{letter_byte, count_byte, head_length, lettered, counted, long_enough, marked, Layout, LaidOut, decode, encode, member_bytes, total_bytes}
 use Rattle.rows.proofs.Layouts.{bytes_both_ways}
 use Rattle.search.specs.Limits.{most_voices, most_rows, most_bytes}
 use Rattle.search.specs.Calls.{begun, Judgement, judge, judged, declined_under}
@@ -31,7 +31,7 @@ accepted_at : (m : Meaning) (xs : List RowData) (r : RowData) (ys : List RowData
 accepted_at m [] r ys n a = a.0
 accepted_at m (x ∷ xs) r ys n a = accepted_at m xs r ys n a.1
 
-laid_out_at : (m : Meaning) (xs : List RowData) (r : RowData) (ys : List RowData) → AllLaidOut m (xs ++ (r ∷ ys)) → Laid_out m r
+laid_out_at : (m : Meaning) (xs : List RowData) (r : RowData) (ys : List RowData) → AllLaidOut m (xs ++ (r ∷ ys)) → LaidOut m r
 laid_out_at m [] r ys a = a.0
 laid_out_at m (x ∷ xs) r ys a = laid_out_at m xs r ys a.1
 

@@ -1,4 +1,6 @@
 // Sheets: a table's voices and rows as bytes, loaded and saved.
+#![tactic(auto)]
+
 pub mod fault;
 pub mod laws;
 pub mod load;

@@ -1,4 +1,6 @@
 // Bytes written into lent memory, one piece after the other.
+#![tactic(auto)]
+
 ghost use Rattle.std.specs.Prelude.{◌≡◌};
 ghost use Rattle.writing.specs.Written.{written};
 

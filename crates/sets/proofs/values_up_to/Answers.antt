@@ -7,8 +7,8 @@ use Rattle.sets.proofs.values_up_to.Goals as goal
 shifted : (v : ℕ) → v < 63 → (2 * 2 ^ v) % 2 ^ 64 ≡ 2 ^ suc v
 shifted v h = shl_whole 2 2 v 64 (lit< tt) (omega arith) ∙ omega (arith, pow-suc 2 v)
 
-pub overflow-sub-result : goal.overflow-sub-result
-overflow-sub-result c = omega (arith, shifted c.args.value (omega arith), pow_pos (suc c.args.value))
+pub overflow_sub-result : goal.overflow_sub-result
+overflow_sub-result c = omega (arith, shifted c.args.value (omega arith), pow_pos (suc c.args.value))
 
 pub returns-then-value-lt63 : goal.returns-then-value-lt63
 returns-then-value-lt63 c =

@@ -6,8 +6,8 @@ use Rattle.rows.proofs.reading.push_body.Goals as goal
 pub loop-byte-preserved : goal.loop-byte-preserved
 loop-byte-preserved c =
     let short : length (vec_items c.loop-byte.row.body) ≤ 16 = search rules in
-    body_more (row_of c.loop-byte.row) (row_of c.push-byte.new.self) c.push-byte.result c.args.bytes.now c.loop-byte.byte-index short c.loop-byte-test.true
-    c.push-byte.ensures.value c.push-byte.ensures.after
+    body_more (row_of c.loop-byte.row) (row_of c.push_byte.new.self) c.push_byte.result c.args.bytes.now c.loop-byte.byte-index short c.loop-byte-test.true
+    c.push_byte.ensures.value c.push_byte.ensures.after
     ∙ c.loop-byte.invariant
 
 pub returns : goal.returns
