@@ -23,7 +23,7 @@ fn write_at(memory: &mut [u8], place: usize, bytes: &[u8])
 
 // The ticket of letter and body, if the bank and the memory have room for their row.
 fn open_row<B: Bank>(letter: u8, body: &[u8], room: usize) -> Result<Ticket, BuildFault>
-    ensures { result ≡ begin_answer meaning letter body.now room }
+    ensures { result ≡ begin_answer B.Bank.meaning letter body.now room }
 {
     let length = B::body_length(letter).ok_or(BuildFault::UnknownLetter)?;
     if body.is_empty() {
@@ -44,8 +44,8 @@ fn open_row<B: Bank>(letter: u8, body: &[u8], room: usize) -> Result<Ticket, Bui
 
 // Begins a row: writes letter and body at the front of the memory.
 pub fn begin<B: Bank>(letter: u8, body: &[u8], memory: &mut [u8]) -> Result<Ticket, BuildFault>
-    ensures value { result ≡ begin_answer meaning letter body.now (length memory.old) }
-    ensures after { memory.new ≡ begin_memory meaning letter body.now memory.old }
+    ensures value { result ≡ begin_answer B.Bank.meaning letter body.now (length memory.old) }
+    ensures after { memory.new ≡ begin_memory B.Bank.meaning letter body.now memory.old }
 {
     let ticket = open_row::<B>(letter, body, memory.len())?;
     memory[0] = letter;
@@ -82,8 +82,8 @@ pub fn close<B: Bank, S: Store>(
     memory: &[u8],
 ) -> Result<(), CloseFault>
     ensures back { handed_back result ≡ to_hand_back (close_verdict ticket (length memory.now)) ticket }
-    ensures does { Posts (close_verdict ticket (length memory.now)) meaning view table.old (row_in ticket memory.now) (close_answer result) table.new }
-    ensures lasts { PostLasts (close_verdict ticket (length memory.now)) meaning view table.old (row_in ticket memory.now) (close_answer result) table.new }
+    ensures does { Posts (close_verdict ticket (length memory.now)) B.Bank.meaning S.Store.view table.old (row_in ticket memory.now) (close_answer result) table.new }
+    ensures lasts { PostLasts (close_verdict ticket (length memory.now)) B.Bank.meaning S.Store.view table.old (row_in ticket memory.now) (close_answer result) table.new }
 {
     if let Err(fault) = ticket.check_close(memory.len()) {
         return Err(CloseFault::HandedBack(Declined { ticket, fault }));

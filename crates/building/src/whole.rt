@@ -35,10 +35,10 @@ pub fn build<B: Bank, S: Store>(
     body: &[u8],
     members: &[Member],
 ) -> Result<(), BuildRefusal>
-    ensures value { own_fault result ≡ build_verdict meaning letter body.now members.now (length memory.old) }
-    ensures does { Posts (build_verdict meaning letter body.now members.now (length memory.old)) meaning view table.old (row_bytes letter body.now members.now) (build_answer result) table.new }
-    ensures lasts { PostLasts (build_verdict meaning letter body.now members.now (length memory.old)) meaning view table.old (row_bytes letter body.now members.now) (build_answer result) table.new }
-    ensures memory { memory.new ≡ build_memory meaning letter body.now members.now memory.old }
+    ensures value { own_fault result ≡ build_verdict B.Bank.meaning letter body.now members.now (length memory.old) }
+    ensures does { Posts (build_verdict B.Bank.meaning letter body.now members.now (length memory.old)) B.Bank.meaning S.Store.view table.old (row_bytes letter body.now members.now) (build_answer result) table.new }
+    ensures lasts { PostLasts (build_verdict B.Bank.meaning letter body.now members.now (length memory.old)) B.Bank.meaning S.Store.view table.old (row_bytes letter body.now members.now) (build_answer result) table.new }
+    ensures memory { memory.new ≡ build_memory B.Bank.meaning letter body.now members.now memory.old }
 {
     let ticket = begin::<B>(letter, body, memory)?;
     let given = give_members(ticket, memory, members)?;

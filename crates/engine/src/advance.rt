@@ -54,7 +54,7 @@ pub(crate) fn advance<B: Bank, S: Store>(
     ensures few { result.exhausted ≤ length sets.old }
     ensures voiced { Voiced (length sets.old) levels.new result.depth }
     ensures lasts { Lasting levels.new result.depth }
-    ensures steps { Advanced meaning voices.now (rows_of rows.now) (place_of Fresh sets.old (levels_at (length sets.old) trail.old levels.old depth)) (view store.old) (place_of result.end sets.new (levels_at (length sets.old) trail.new levels.new result.depth)) (view store.new) result.exhausted }
+    ensures steps { Advanced B.Bank.meaning voices.now (rows_of rows.now) (place_of Fresh sets.old (levels_at (length sets.old) trail.old levels.old depth)) (S.Store.view store.old) (place_of result.end sets.new (levels_at (length sets.old) trail.new levels.new result.depth)) (S.Store.view store.new) result.exhausted }
 {
     if depth == 0 {
         sets.copy_from_slice(voices);

@@ -25,7 +25,7 @@ pub(crate) fn back_up<B: Bank, S: Store>(
     requires levels { depth ≤ length levels.now }
     ensures fewer { result ≤ depth }
     ensures lasts { Lasting levels.now result }
-    ensures backs { Backed meaning (rows_of rows.now) (levels_at n trail.now levels.now depth) (view store.old) (levels_at n trail.now levels.now result) (view store.new) (depth - result) }
+    ensures backs { Backed B.Bank.meaning (rows_of rows.now) (levels_at n trail.now levels.now depth) (S.Store.view store.old) (levels_at n trail.now levels.now result) (S.Store.view store.new) (depth - result) }
 {
     let mut d = depth;
     while d > 0 {

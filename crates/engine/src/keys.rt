@@ -18,7 +18,7 @@ pub(crate) fn find_key<B: Bank, S: Store>(
     store: &S,
 ) -> bool
     requires { length sets.now + 2 * length rows.now ≤ length words.old }
-    ensures { result ≡ member (key meaning (rows_of rows.now) sets.now) (view store.now).held }
+    ensures { result ≡ member (key B.Bank.meaning (rows_of rows.now) sets.now) (S.Store.view store.now).held }
 {
     match write_key::<B>(rows, sets, words) {
         Some(n) => store.find(&words[..n]),
@@ -37,7 +37,7 @@ pub(crate) fn keep_key<B: Bank, S: Store>(
 ) -> Stored
     requires words { n + 2 * length rows.now ≤ length words.old }
     requires inside { at + n ≤ length trail.now }
-    ensures { Keeps (view store.old) (key meaning (rows_of rows.now) (take n (drop at trail.now))) result (view store.new) }
+    ensures { Keeps (S.Store.view store.old) (key B.Bank.meaning (rows_of rows.now) (take n (drop at trail.now))) result (S.Store.view store.new) }
 {
     match write_key::<B>(rows, &trail[at..at + n], words) {
         Some(length) => store.keep(&words[..length]),

@@ -47,7 +47,7 @@ pub(crate) fn open_node<B: Bank, S: Store>(
     ensures few { result.exhausted ≤ length sets.old }
     ensures voiced { Voiced (length sets.old) levels.new result.depth }
     ensures lasts { Lasting levels.new result.depth }
-    ensures opens { Opened meaning (rows_of rows.now) sets.old (levels_at (length sets.old) trail.old levels.old depth) (view store.old) (place_of result.end sets.new (levels_at (length sets.old) trail.new levels.new result.depth)) (view store.new) result.exhausted }
+    ensures opens { Opened B.Bank.meaning (rows_of rows.now) sets.old (levels_at (length sets.old) trail.old levels.old depth) (S.Store.view store.old) (place_of result.end sets.new (levels_at (length sets.old) trail.new levels.new result.depth)) (S.Store.view store.new) result.exhausted }
 {
     let n = sets.len();
     let k = fixed_below(levels, depth);

@@ -29,8 +29,8 @@ fn perform_solve<B: Bank, S: Store>(
     heap: Global,
     budget: u64,
 ) -> Result<Answer, AllocError>
-    ensures does { IfOk result (λ a. Done meaning (model table.old) (store_in view table.old) (CallOf.solve budget) (answer_of a) (model table.new) (store_in view table.new)) }
-    ensures lasts { IfOk result (λ a. Lasts meaning (model table.old) (store_in view table.old) (CallOf.solve budget) (answer_of a) (model table.new) (store_in view table.new)) }
+    ensures does { IfOk result (λ a. Done B.Bank.meaning (model table.old) (store_in S.Store.view table.old) (CallOf.solve budget) (answer_of a) (model table.new) (store_in S.Store.view table.new)) }
+    ensures lasts { IfOk result (λ a. Lasts B.Bank.meaning (model table.old) (store_in S.Store.view table.old) (CallOf.solve budget) (answer_of a) (model table.new) (store_in S.Store.view table.new)) }
     ensures kept { OnErr result (table.new ≡ table.old) }
 {
     let mut values = vec![in heap; 0u8; MOST_VOICES]?;
@@ -54,8 +54,8 @@ fn perform_read<B: Bank, S: Store>(
     heap: Global,
     bytes: &[u8],
 ) -> Result<Answer, AllocError>
-    ensures does { IfOk result (λ a. Done meaning (model table.now) (store_in view table.now) (CallOf.read bytes.now) (answer_of a) (model table.now) (store_in view table.now)) }
-    ensures lasts { IfOk result (λ a. Lasts meaning (model table.now) (store_in view table.now) (CallOf.read bytes.now) (answer_of a) (model table.now) (store_in view table.now)) }
+    ensures does { IfOk result (λ a. Done B.Bank.meaning (model table.now) (store_in S.Store.view table.now) (CallOf.read bytes.now) (answer_of a) (model table.now) (store_in S.Store.view table.now)) }
+    ensures lasts { IfOk result (λ a. Lasts B.Bank.meaning (model table.now) (store_in S.Store.view table.now) (CallOf.read bytes.now) (answer_of a) (model table.now) (store_in S.Store.view table.now)) }
 {
     let mut buffer = bytes.to_vec(heap)?;
     match table.read(&mut buffer) {
@@ -70,8 +70,8 @@ pub fn perform<B: Bank, S: Store>(
     heap: Global,
     call: &Call,
 ) -> Result<Answer, AllocError>
-    ensures does { IfOk result (λ a. Done meaning (model table.old) (store_in view table.old) (call_of call.now) (answer_of a) (model table.new) (store_in view table.new)) }
-    ensures lasts { IfOk result (λ a. Lasts meaning (model table.old) (store_in view table.old) (call_of call.now) (answer_of a) (model table.new) (store_in view table.new)) }
+    ensures does { IfOk result (λ a. Done B.Bank.meaning (model table.old) (store_in S.Store.view table.old) (call_of call.now) (answer_of a) (model table.new) (store_in S.Store.view table.new)) }
+    ensures lasts { IfOk result (λ a. Lasts B.Bank.meaning (model table.old) (store_in S.Store.view table.old) (call_of call.now) (answer_of a) (model table.new) (store_in S.Store.view table.new)) }
     ensures kept { OnErr result (table.new ≡ table.old) }
 {
     match call {

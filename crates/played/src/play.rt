@@ -16,7 +16,7 @@ pub fn play<B: Bank, S: Store + Drop>(
     store: S,
     calls: &[Call],
 ) -> Result<Vec<Answer>, AllocError>
-    ensures { IfOk result (λ answers. Played meaning (calls_of calls.now) (answers_of answers.items)) }
+    ensures { IfOk result (λ answers. Played B.Bank.meaning (calls_of calls.now) (answers_of answers.items)) }
 {
     let mut table: Table<B, S> = Table::make(heap, store)?;
     let mut answers = Vec::with_capacity(heap, calls.len())?;

@@ -33,8 +33,8 @@ pub fn count_values(sets: &[ValueSet]) -> u128
 
 // Each row has a turn, until one empties a set. Says whether another round is due: some turn changed a set, and none emptied one.
 pub fn run_round<B: Bank>(rows: &[Row], sets: &mut [ValueSet]) -> bool
-    ensures after { sets.new ≡ (round meaning (rows_of rows.now) sets.old).sets }
-    ensures value { result ≡ (round meaning (rows_of rows.now) sets.old).again }
+    ensures after { sets.new ≡ (round B.Bank.meaning (rows_of rows.now) sets.old).sets }
+    ensures value { result ≡ (round B.Bank.meaning (rows_of rows.now) sets.old).again }
 {
     let mut again = false;
     for row in rows {
@@ -50,7 +50,7 @@ pub fn run_round<B: Bank>(rows: &[Row], sets: &mut [ValueSet]) -> bool
 
 // Rounds as long as another is due.
 pub fn propagate<B: Bank>(rows: &[Row], sets: &mut [ValueSet])
-    ensures { sets.new ≡ propagated meaning (rows_of rows.now) sets.old }
+    ensures { sets.new ≡ propagated B.Bank.meaning (rows_of rows.now) sets.old }
 {
     let mut left = count_values(sets);
     while run_round::<B>(rows, sets) {

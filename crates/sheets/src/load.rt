@@ -40,8 +40,8 @@ fn read_voice<B: Bank, S: Store>(
     table: &mut Table<B, S>,
     rest: &[u8],
 ) -> Result<Option<usize>, Cause>
-    requires { Unsearched (model table.old 0) (store_in view table.old) }
-    ensures { ItemRead meaning (model table.old 0) (voice_item meaning (model table.old 0).voices (model table.old 0).rows rest.now) result (model table.new 0) (store_in view table.new) }
+    requires { Unsearched (model table.old 0) (store_in S.Store.view table.old) }
+    ensures { ItemRead B.Bank.meaning (model table.old 0) (voice_item B.Bank.meaning (model table.old 0).voices (model table.old 0).rows rest.now) result (model table.new 0) (store_in S.Store.view table.new) }
 {
     if !table.rows().is_empty() {
         return Err(Cause::LateVoice);
@@ -58,8 +58,8 @@ fn read_row<B: Bank, S: Store>(
     table: &mut Table<B, S>,
     bytes: &[u8],
 ) -> Result<Option<usize>, Cause>
-    requires { Unsearched (model table.old 0) (store_in view table.old) }
-    ensures { ItemRead meaning (model table.old 0) (row_item meaning (model table.old 0).voices (model table.old 0).rows bytes.now) result (model table.new 0) (store_in view table.new) }
+    requires { Unsearched (model table.old 0) (store_in S.Store.view table.old) }
+    ensures { ItemRead B.Bank.meaning (model table.old 0) (row_item B.Bank.meaning (model table.old 0).voices (model table.old 0).rows bytes.now) result (model table.new 0) (store_in S.Store.view table.new) }
 {
     let row = front_row::<B>(bytes);
     table.post(row)?;
@@ -71,8 +71,8 @@ fn read_record<B: Bank, S: Store>(
     table: &mut Table<B, S>,
     bytes: &[u8],
 ) -> Result<Option<usize>, Cause>
-    requires { Unsearched (model table.old 0) (store_in view table.old) }
-    ensures { ItemRead meaning (model table.old 0) (item_at meaning (model table.old 0).voices (model table.old 0).rows bytes.now) result (model table.new 0) (store_in view table.new) }
+    requires { Unsearched (model table.old 0) (store_in S.Store.view table.old) }
+    ensures { ItemRead B.Bank.meaning (model table.old 0) (item_at B.Bank.meaning (model table.old 0).voices (model table.old 0).rows bytes.now) result (model table.new 0) (store_in S.Store.view table.new) }
 {
     let [mark, rest @ ..] = bytes else {
         return Err(Cause::NoRecord);
@@ -94,8 +94,8 @@ fn read_record<B: Bank, S: Store>(
 // Reads records until the sheet ends, or one is faulty.
 fn read_records<B: Bank, S: Store>(table: &mut Table<B, S>, bytes: &[u8]) -> Result<(), SheetFault>
     requires none { model table.old 0 ≡ empty }
-    requires holds { (store_in view table.old).held ≡ [] }
-    ensures { RecordsRead (read_sheet meaning bytes.now) result (model table.new 0) (store_in view table.new) }
+    requires holds { (store_in S.Store.view table.old).held ≡ [] }
+    ensures { RecordsRead (read_sheet B.Bank.meaning bytes.now) result (model table.new 0) (store_in S.Store.view table.new) }
 {
     let mut at = 0;
     loop {
@@ -114,7 +114,7 @@ fn read_records<B: Bank, S: Store>(table: &mut Table<B, S>, bytes: &[u8]) -> Res
 
 // Leaves no voices and no rows where the sheet was declined.
 fn wipe_declined<B: Bank, S: Store>(table: &mut Table<B, S>, res: &Result<(), SheetFault>)
-    ensures declined { is_err res.now ≡ true → CallDone meaning view table.old Call.wipe Answer.done table.new }
+    ensures declined { is_err res.now ≡ true → CallDone B.Bank.meaning S.Store.view table.old Call.wipe Answer.done table.new }
     ensures accepted { is_err res.now ≡ false → table.new ≡ table.old }
 {
     if res.is_err() {
@@ -125,10 +125,10 @@ fn wipe_declined<B: Bank, S: Store>(table: &mut Table<B, S>, res: &Result<(), Sh
 // Gives the table the voices and rows of the sheet, in place of its own. The store is emptied, and the search has not begun. A declined sheet leaves no
 // voices and no rows.
 pub fn load<B: Bank, S: Store>(table: &mut Table<B, S>, bytes: &[u8]) -> Result<(), SheetFault>
-    ensures value { load_answer result ≡ outcome_answer (read_sheet meaning bytes.now) }
-    ensures after { LoadLeaves (read_sheet meaning bytes.now) (model table.new 0) (store_in view table.new) }
-    ensures back { LoadBack (read_sheet meaning bytes.now) bytes.now (sheet_of table.new) }
-    ensures lasts { LoadLasts meaning (model table.old) (store_in view table.old) (read_sheet meaning bytes.now) (model table.new 0) (store_in view table.new) }
+    ensures value { load_answer result ≡ outcome_answer (read_sheet B.Bank.meaning bytes.now) }
+    ensures after { LoadLeaves (read_sheet B.Bank.meaning bytes.now) (model table.new 0) (store_in S.Store.view table.new) }
+    ensures back { LoadBack (read_sheet B.Bank.meaning bytes.now) bytes.now (sheet_of table.new) }
+    ensures lasts { LoadLasts B.Bank.meaning (model table.old) (store_in S.Store.view table.old) (read_sheet B.Bank.meaning bytes.now) (model table.new 0) (store_in S.Store.view table.new) }
 {
     table.wipe();
     let result = read_records(table, bytes);

@@ -85,7 +85,7 @@ fn write_rows(rows: &[Row], out: &mut [u8], from: usize) -> usize
 pub fn save<B: Bank, S: Store>(table: &Table<B, S>, out: &mut [u8]) -> Result<usize, Refusal>
     ensures value { result ≡ save_answer (sheet_of table.now) out.old }
     ensures after { out.new ≡ save_after (sheet_of table.now) out.old }
-    ensures again { LoadsAgain meaning (model table.now) (store_in view table.now) }
+    ensures again { LoadsAgain B.Bank.meaning (model table.now) (store_in S.Store.view table.now) }
 {
     let length = 9 * table.voices().len() + table.row_bytes() + 1;
     if out.len() < length {

@@ -20,7 +20,7 @@ fn write_voices(sets: &[ValueSet], words: &mut [u64])
 // The rows' traces, from the word `from` on.
 fn write_traces<B: Bank>(rows: &[Row], sets: &[ValueSet], words: &mut [u64], from: usize)
     requires { from + 2 * length rows.now ≤ length words.old }
-    ensures { words.new ≡ (take from words.old ++ trace_words meaning sets.now (rows_of rows.now)) ++ drop (from + 2 * length rows.now) words.old }
+    ensures { words.new ≡ (take from words.old ++ trace_words B.Bank.meaning sets.now (rows_of rows.now)) ++ drop (from + 2 * length rows.now) words.old }
 {
     let mut at = from;
     for row in rows {
@@ -33,8 +33,8 @@ fn write_traces<B: Bank>(rows: &[Row], sets: &[ValueSet], words: &mut [u64], fro
 
 // Writes the key at the front of `words` and answers its length; where `words` is too short, nothing is written. Words beyond the key stay.
 pub fn write_key<B: Bank>(rows: &[Row], sets: &[ValueSet], words: &mut [u64]) -> Option<usize>
-    ensures value { result ≡ put_answer (key meaning (rows_of rows.now) sets.now) words.old }
-    ensures after { words.new ≡ put_after (key meaning (rows_of rows.now) sets.now) words.old }
+    ensures value { result ≡ put_answer (key B.Bank.meaning (rows_of rows.now) sets.now) words.old }
+    ensures after { words.new ≡ put_after (key B.Bank.meaning (rows_of rows.now) sets.now) words.old }
 {
     if words.len() < sets.len() || (words.len() - sets.len()) / 2 < rows.len() {
         return None;

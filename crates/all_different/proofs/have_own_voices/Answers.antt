@@ -6,21 +6,21 @@ use Rattle.narrowing.proofs.Scans.{nobody}
 use Rattle.all_different.proofs.Taking.{voices_on, voices_stop}
 use Rattle.all_different.proofs.have_own_voices.Goals as goal
 
-pub returns-then-is-named : goal.returns-then-is-named
-returns-then-is-named c =
+pub returns-then-is_named : goal.returns-then-is_named
+returns-then-is_named c =
     let ms = c.args.members.now in
     let i = c.loop-i.i in
-    let named : c.is-named.result ≡ any (λ m. eqb (get_or ms i nobody).voice m.voice) (drop (i + 1) ms)
-    = c.is-named.ensures ∙ ap (any (λ m. eqb (get_or ms i nobody).voice m.voice)) (take_rest ms (i + 1)) in
-    sym (voices_stop ms i nobody c.loop-i-test.true (sym named ∙ c.if-is-named.true)) ∙ c.loop-i.invariant
+    let named : c.is_named.result ≡ any (λ m. eqb (get_or ms i nobody).voice m.voice) (drop (i + 1) ms)
+    = c.is_named.ensures ∙ ap (any (λ m. eqb (get_or ms i nobody).voice m.voice)) (take_rest ms (i + 1)) in
+    sym (voices_stop ms i nobody c.loop-i-test.true (sym named ∙ c.if-is_named.true)) ∙ c.loop-i.invariant
 
 pub loop-i-preserved : goal.loop-i-preserved
 loop-i-preserved c =
     let ms = c.args.members.now in
     let i = c.loop-i.i in
-    let named : c.is-named.result ≡ any (λ m. eqb (get_or ms i nobody).voice m.voice) (drop (i + 1) ms)
-    = c.is-named.ensures ∙ ap (any (λ m. eqb (get_or ms i nobody).voice m.voice)) (take_rest ms (i + 1)) in
-    sym (voices_on ms i nobody c.loop-i-test.true (sym named ∙ c.if-is-named.false)) ∙ c.loop-i.invariant
+    let named : c.is_named.result ≡ any (λ m. eqb (get_or ms i nobody).voice m.voice) (drop (i + 1) ms)
+    = c.is_named.ensures ∙ ap (any (λ m. eqb (get_or ms i nobody).voice m.voice)) (take_rest ms (i + 1)) in
+    sym (voices_on ms i nobody c.loop-i-test.true (sym named ∙ c.if-is_named.false)) ∙ c.loop-i.invariant
 
 pub returns : goal.returns
 returns c = sym (at_drop_all (λ l. distinct (map (λ m. m.voice) l)) c.args.members.now c.loop-i.i c.loop-i-test.false) ∙ c.loop-i.invariant

@@ -10,12 +10,12 @@ use Rattle.all_different.proofs.Taking.{open_takes_none, other_more, own_more, f
 use Rattle.all_different.proofs.take_from_others.Goals as goal
 use Rattle.all_different.proofs.take_from_others.Goals.{then-m-taker, else-m-taker}
 
-pub returns-then-not-is-fixed : goal.returns-then-not-is-fixed
-returns-then-not-is-fixed c =
+pub returns-then-not-is_fixed : goal.returns-then-not-is_fixed
+returns-then-not-is_fixed c =
     let small : Small c.args.sets.now = λ i. search rules in
     record {
       after = sym (open_takes_none c.args.taker (at c.args.sets.now c.args.taker) c.args.members.now c.args.sets.now small
-          (sym (ap fixed c.set-of-set.ensures) ∙ sym c.if-not-is-fixed.ensures));
+          (sym (ap fixed c.set_of-set.ensures) ∙ sym c.if-not-is_fixed.ensures));
       value = sym (unchanged c.args.sets.now);
     }
 
@@ -31,10 +31,10 @@ loop-m-preserved c =
     let i = c.loop-m.m-index in
     elim c.if-m-taker.branch [
       | then-m-taker w ↦ (
-        w.sets-is ∙ other_more m ms i c.set-of-set.result s c.loop-m.sets w.keep-only-lost.new.sets small c.loop-m-test.true c.set-of-set.ensures
-            (sym c.if-not-is-fixed.ensures) (λ e. omega arith) c.loop-m.invariant.0 w.keep-only-lost.ensures.after,
-        w.lost-is ∙ flag_more (spares m (at s m)) (take i ms) _ (has (2 ^ 64 - 1 - c.set-of-set.result)) s c.loop-m.sets w.keep-only-lost.new.sets
-            c.loop-m.lost w.keep-only-lost.result small c.loop-m.invariant.0 w.keep-only-lost.ensures.after c.loop-m.invariant.1 w.keep-only-lost.ensures.value
+        w.sets-is ∙ other_more m ms i c.set_of-set.result s c.loop-m.sets w.keep_only-lost.new.sets small c.loop-m-test.true c.set_of-set.ensures
+            (sym c.if-not-is_fixed.ensures) (λ e. omega arith) c.loop-m.invariant.0 w.keep_only-lost.ensures.after,
+        w.lost-is ∙ flag_more (spares m (at s m)) (take i ms) _ (has (2 ^ 64 - 1 - c.set_of-set.result)) s c.loop-m.sets w.keep_only-lost.new.sets
+            c.loop-m.lost w.keep_only-lost.result small c.loop-m.invariant.0 w.keep_only-lost.ensures.after c.loop-m.invariant.1 w.keep_only-lost.ensures.value
             ∙ ap (λ x. changed x s) (sym w.sets-is),
       )
       | else-m-taker w ↦ (

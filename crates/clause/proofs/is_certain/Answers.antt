@@ -6,6 +6,6 @@ use Rattle.clause.proofs.is_certain.Goals as goal
 
 pub returns : goal.returns
 returns c =
-    let fits : c.set-of.result < 2 ^ 64 = search rules in
-    none_out c.set-of.result c.true-values.result (says c.args.literal) fits c.true-values.ensures
-    ∙ ap (λ (x : ℕ). eqb (sift (λ v. not (says c.args.literal v)) x) 0) c.set-of.ensures
+    let fits : c.set_of.result < 2 ^ 64 = search rules in
+    none_out c.set_of.result c.true_values.result (says c.args.literal) fits c.true_values.ensures
+    ∙ ap (λ (x : ℕ). eqb (sift (λ v. not (says c.args.literal v)) x) 0) c.set_of.ensures

@@ -5,11 +5,11 @@ use Rattle.clause.proofs.is_settled.Goals as goal
 
 pub loop-m-preserved : goal.loop-m-preserved
 loop-m-preserved c =
-    sym (any_more (certain c.args.sets.now) c.args.literals.now c.loop-m.m-index nobody c.loop-m-test.true (sym c.if-is-certain.ensures)) ∙ c.loop-m.invariant
+    sym (any_more (certain c.args.sets.now) c.args.literals.now c.loop-m.m-index nobody c.loop-m-test.true (sym c.if-is_certain.ensures)) ∙ c.loop-m.invariant
 
-pub returns-then-is-certain : goal.returns-then-is-certain
-returns-then-is-certain c =
-    sym (any_stop (certain c.args.sets.now) c.args.literals.now c.loop-m.m-index nobody c.loop-m-test.true (sym c.if-is-certain.ensures)) ∙ c.loop-m.invariant
+pub returns-then-is_certain : goal.returns-then-is_certain
+returns-then-is_certain c =
+    sym (any_stop (certain c.args.sets.now) c.args.literals.now c.loop-m.m-index nobody c.loop-m-test.true (sym c.if-is_certain.ensures)) ∙ c.loop-m.invariant
 
 pub returns : goal.returns
 returns c = sym (any_end (certain c.args.sets.now) c.args.literals.now c.loop-m.m-index c.loop-m-test.false) ∙ c.loop-m.invariant

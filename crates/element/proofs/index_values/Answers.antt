@@ -16,7 +16,7 @@ loop-m-preserved c =
     let i = c.loop-m.m-index in
     let inv = c.loop-m.invariant in
     let asked : c.contains.result ≡ has c.args.results (entry ms i) =
-    c.contains.ensures ∙ ap (has c.args.results) (c.value-of.ensures ∙ entry_at ms i nobody c.loop-m-test.true) in (
+    c.contains.ensures ∙ ap (has c.args.results) (c.value_of.ensures ∙ entry_at ms i nobody c.loop-m-test.true) in (
       next_place i c.loop-m.here inv.0,
       elim c.if-contains.branch [
         | then-contains w ↦ w.indices-is ∙ place_added ms c.args.results i c.loop-m.indices c.loop-m.here inv.1 inv.0 (sym asked ∙ w.if-contains.true)

@@ -7,8 +7,8 @@ pub returns : goal.returns
 returns c =
     let s = c.args.sets.now in
     record {
-      after = c.keep-only.ensures.after
-          ∙ index_cut (row_of c.args.row.now) s c.index-voice.result c.set-of-results.result c.index-values-indices.result c.members.result.now c.index-voice.ensures
-          (c.set-of-results.ensures ∙ ap (λ (v : ℕ). get_or s v 0) c.result-voice.ensures) c.members.ensures c.index-values-indices.ensures;
-      value = c.keep-only.ensures.value;
+      after = c.keep_only.ensures.after
+          ∙ index_cut (row_of c.args.row.now) s c.index_voice.result c.set_of-results.result c.index_values-indices.result c.members.result.now c.index_voice.ensures
+          (c.set_of-results.ensures ∙ ap (λ (v : ℕ). get_or s v 0) c.result_voice.ensures) c.members.ensures c.index_values-indices.ensures;
+      value = c.keep_only.ensures.value;
     }

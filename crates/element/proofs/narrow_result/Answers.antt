@@ -7,8 +7,8 @@ pub returns : goal.returns
 returns c =
     let s = c.args.sets.now in
     record {
-      after = c.keep-only.ensures.after
-          ∙ result_cut (row_of c.args.row.now) s c.result-voice.result c.set-of-indices.result c.result-values-results.result c.members.result.now c.result-voice.ensures
-          (c.set-of-indices.ensures ∙ ap (λ (v : ℕ). get_or s v 0) c.index-voice.ensures) c.members.ensures c.result-values-results.ensures;
-      value = c.keep-only.ensures.value;
+      after = c.keep_only.ensures.after
+          ∙ result_cut (row_of c.args.row.now) s c.result_voice.result c.set_of-indices.result c.result_values-results.result c.members.result.now c.result_voice.ensures
+          (c.set_of-indices.ensures ∙ ap (λ (v : ℕ). get_or s v 0) c.index_voice.ensures) c.members.ensures c.result_values-results.ensures;
+      value = c.keep_only.ensures.value;
     }

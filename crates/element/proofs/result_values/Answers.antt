@@ -16,10 +16,10 @@ loop-m-preserved c =
     let inv = c.loop-m.invariant in
     elim c.if-contains.branch [
       | then-contains w ↦ (
-        subst (λ (x : ℕ). x < 2 ^ 64) (sym w.results-is) (or_lt 64 before w.single-results.result inv.0 w.single-results.type-inv),
+        subst (λ (x : ℕ). x < 2 ^ 64) (sym w.results-is) (or_lt 64 before w.single-results.result inv.0 w.single-results.type_inv),
         λ v l. ap (λ (x : ℕ). has x v || reached (drop (i + 1) ms) (has (left / 2)) v) w.results-is
             ∙ result_added ms left i before w.single-results.result v nobody c.loop-m-test.true (sym c.contains.ensures ∙ w.if-contains.true)
-            (w.single-results.ensures ∙ ap (λ (a : ℕ). mask 64 (λ x. eqb x a)) w.value-of.ensures) l
+            (w.single-results.ensures ∙ ap (λ (a : ℕ). mask 64 (λ x. eqb x a)) w.value_of.ensures) l
             ∙ inv.1 v l,
       )
       | else-contains w ↦ (

@@ -36,8 +36,8 @@ pub(crate) fn classify<B: Bank, S: Store>(
     store: &S,
 ) -> Node
     requires { length sets.old + 2 * length rows.now ≤ length words.old }
-    ensures after { sets.new ≡ propagated meaning (rows_of rows.now) sets.old }
-    ensures value { node meaning (rows_of rows.now) (view store.now) k sets.new ≡ node_of result sets.new }
+    ensures after { sets.new ≡ propagated B.Bank.meaning (rows_of rows.now) sets.old }
+    ensures value { node B.Bank.meaning (rows_of rows.now) (S.Store.view store.now) k sets.new ≡ node_of result sets.new }
     ensures branches { Branches result k sets.new }
 {
     propagate::<B>(rows, sets);

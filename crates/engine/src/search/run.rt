@@ -19,7 +19,7 @@ impl Search {
         requires voices { length voices.now ≡ voice_count self.old }
         requires rows { length rows.now ≤ most_rows }
         requires few { self.old.opened < most_opened }
-        ensures goes { Ran meaning 1 (table_of voices.now (rows_of rows.now) self.old) (view store.old) (table_of voices.now (rows_of rows.now) self.new) (view store.new) }
+        ensures goes { Ran B.Bank.meaning 1 (table_of voices.now (rows_of rows.now) self.old) (S.Store.view store.old) (table_of voices.now (rows_of rows.now) self.new) (S.Store.view store.new) }
         ensures voices { voice_count self.new ≡ voice_count self.old }
         ensures count { self.new.opened ≡ self.old.opened + 1 }
     {
@@ -50,7 +50,7 @@ impl Search {
         requires voices { length voices.now ≡ voice_count self.old }
         requires rows { length rows.now ≤ most_rows }
         requires few { self.old.opened + budget ≤ most_opened }
-        ensures runs { Runs meaning budget (table_of voices.now (rows_of rows.now) self.old) (view store.old) (table_of voices.now (rows_of rows.now) self.new) (view store.new) }
+        ensures runs { Runs B.Bank.meaning budget (table_of voices.now (rows_of rows.now) self.old) (S.Store.view store.old) (table_of voices.now (rows_of rows.now) self.new) (S.Store.view store.new) }
         ensures voices { voice_count self.new ≡ voice_count self.old }
     {
         let mut left = budget;

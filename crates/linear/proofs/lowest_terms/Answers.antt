@@ -14,8 +14,8 @@ few c = few_members c.args.row.now
 here : (c : goal.After-lowest-term) → c.loop-i.i < length (row_of c.args.row.now).members
 here c = omega (arith, c.loop-i-test.true, ap length c.members-m-items.ensures)
 
-pub overflow-add-sum : goal.overflow-add-sum
-overflow-add-sum c = let h = here c in let f = few c in summed_fits c.loop-i.i _ c.lowest-term.result (omega arith) c.loop-i.invariant.2.1 c.lowest-term.ensures.near
+pub overflow_add-sum : goal.overflow_add-sum
+overflow_add-sum c = let h = here c in let f = few c in summed_fits c.loop-i.i _ c.lowest-term.result (omega arith) c.loop-i.invariant.2.1 c.lowest-term.ensures.near
 
 pub loop-i-preserved : goal.loop-i-preserved
 loop-i-preserved c =
@@ -26,7 +26,7 @@ loop-i-preserved c =
     let s = c.args.sets.now in
     let value = c.lowest-term.ensures.value ∙ ap (λ l. low s (get_or l i nobody)) c.members-m-items.ensures in
     let stored = to_z w64 (of_z w64 c.lowest-term.result) in
-    let same = to_z-of_z w64 c.lowest-term.result (record { sfits = c.lowest-term.type-inv }) in (
+    let same = to_z-of_z w64 c.lowest-term.result (record { sfits = c.lowest-term.type_inv }) in (
       length-set c.loop-i.lows i stored ∙ c.loop-i.invariant.0,
       filled_more (low s) ms c.loop-i.lows i stored nobody h (omega (arith, c.loop-i.invariant.0)) c.loop-i.invariant.1 (same ∙ value),
       summed_more (low s) ms i nobody _ c.lowest-term.result h f c.loop-i.invariant.2 value c.lowest-term.ensures.near,

@@ -12,8 +12,8 @@ few c = few_members c.args.row.now
 here : (c : goal.After-highest-sum) → c.loop-m.m-index < length (row_of c.args.row.now).members
 here c = omega (arith, c.loop-m-test.true, ap length c.members-m-items.ensures)
 
-pub overflow-add-sum : goal.overflow-add-sum
-overflow-add-sum c = let h = here c in let f = few c in summed_fits c.loop-m.m-index _ c.highest-sum.result (omega arith) c.loop-m.invariant.1 c.highest-sum.ensures.near
+pub overflow_add-sum : goal.overflow_add-sum
+overflow_add-sum c = let h = here c in let f = few c in summed_fits c.loop-m.m-index _ c.highest-sum.result (omega arith) c.loop-m.invariant.1 c.highest-sum.ensures.near
 
 pub loop-m-preserved : goal.loop-m-preserved
 loop-m-preserved c =

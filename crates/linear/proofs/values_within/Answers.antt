@@ -9,10 +9,10 @@ pub returns-then-coefficient-gt0 : goal.returns-then-coefficient-gt0
 returns-then-coefficient-gt0 c =
     let a = to_z-of_z w16 c.args.coefficient c.ranges.coefficient in
     let z = to_z-of_z w64 c.args.slack c.ranges.slack in
-    let room = c.unsigned-abs-room.ensures.value ∙ ap nat_abs z in
-    let factor = c.from-factor.ensures ∙ c.unsigned-abs.ensures.value ∙ ap nat_abs a in
+    let room = c.unsigned_abs-room.ensures.value ∙ ap nat_abs z in
+    let factor = c.from-factor.ensures ∙ c.unsigned_abs.ensures.value ∙ ap nat_abs a in
     let quotient = c.min.ensures ∙ ap₂ (λ x y. min (x / y) 63) room factor in
-    c.values-up-to.ensures ∙ ap (λ x. mask 64 (λ v. leb v x)) quotient
+    c.values_up_to.ensures ∙ ap (λ x. mask 64 (λ v. leb v x)) quotient
     ∙ up_to_within c.args.coefficient c.args.slack (ap (lt_z (pos 0)) (sym a) ∙ c.if-coefficient-gt0.true) (ap (le_z (pos 0)) (sym z) ∙ c.if-slack-ge0.true)
 
 pub returns-else-coefficient-gt0 : goal.returns-else-coefficient-gt0
@@ -25,10 +25,10 @@ pub returns-then-coefficient-lt0 : goal.returns-then-coefficient-lt0
 returns-then-coefficient-lt0 c =
     let a = to_z-of_z w16 c.args.coefficient c.ranges.coefficient in
     let z = to_z-of_z w64 c.args.slack c.ranges.slack in
-    let room = c.unsigned-abs-room.ensures.value ∙ ap nat_abs z in
-    let factor = c.from-factor.ensures ∙ c.unsigned-abs.ensures.value ∙ ap nat_abs a in
-    let quotient = c.min-then-coefficient-lt0.ensures ∙ ap (λ x. min x 64) (c.div-ceil.ensures ∙ ap₂ (λ x y. x / y + min 1 (x % y)) room factor) in
-    c.values-from.ensures ∙ ap (λ x. mask 64 (λ v. leb x v)) quotient
+    let room = c.unsigned_abs-room.ensures.value ∙ ap nat_abs z in
+    let factor = c.from-factor.ensures ∙ c.unsigned_abs.ensures.value ∙ ap nat_abs a in
+    let quotient = c.min-then-coefficient-lt0.ensures ∙ ap (λ x. min x 64) (c.div_ceil.ensures ∙ ap₂ (λ x y. x / y + min 1 (x % y)) room factor) in
+    c.values_from.ensures ∙ ap (λ x. mask 64 (λ v. leb x v)) quotient
     ∙ from_within c.args.coefficient c.args.slack (ap (λ x. lt_z x (pos 0)) (sym a) ∙ c.if-coefficient-lt0.true) (ap (le_z (pos 0)) (sym z) ∙ c.if-slack-ge0.false)
 
 pub returns-else-coefficient-lt0 : goal.returns-else-coefficient-lt0

@@ -24,7 +24,7 @@ fn make_rows(heap: Global) -> Result<Vec<Row>, AllocError>
 impl<B: Bank, S: Store + Drop> Table<B, S> {
     // A table with no voices and no rows, over a store that holds nothing then.
     pub fn make(heap: Global, store: S) -> Result<Table<B, S>, AllocError>
-        ensures { IfOk result (λ t. Begins meaning view t) }
+        ensures { IfOk result (λ t. Begins B.Bank.meaning S.Store.view t) }
     {
         let voices = Vec::with_capacity(heap, MOST_VOICES)?;
         let rows = make_rows(heap)?;

@@ -18,10 +18,10 @@ loop-m-preserved c =
     let i = c.loop-m.m-index in
     let n = get_or ms i nobody in
     let u = c.loop-m.sets in
-    let t = c.take-from-others-took.new.sets in (
-      takes_more_one ms i c.args.sets.now u t c.loop-m-test.true c.loop-m.invariant.0 c.take-from-others-took.ensures.after,
-      takes_flag (spares n (at u n)) ms (take i ms) c.args.sets.now u t c.loop-m.took c.take-from-others-took.result small
-          c.loop-m.invariant.0 c.take-from-others-took.ensures.after c.loop-m.invariant.1 c.take-from-others-took.ensures.value,
+    let t = c.take_from_others-took.new.sets in (
+      takes_more_one ms i c.args.sets.now u t c.loop-m-test.true c.loop-m.invariant.0 c.take_from_others-took.ensures.after,
+      takes_flag (spares n (at u n)) ms (take i ms) c.args.sets.now u t c.loop-m.took c.take_from_others-took.result small
+          c.loop-m.invariant.0 c.take_from_others-took.ensures.after c.loop-m.invariant.1 c.take_from_others-took.ensures.value,
     )
 
 pub returns : goal.returns

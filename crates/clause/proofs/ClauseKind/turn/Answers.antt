@@ -9,8 +9,8 @@ returns-in-One c =
     let ms = vec_items c.args.row.now.members in
     let standing = c.in-One.ensures ∙ ap (λ l. standing_of (chosen (stands c.args.sets.now) l)) c.members.ensures in
     record {
-      after = c.keep-only.ensures.after ∙ one_unit (chosen (stands c.args.sets.now) ms) ms c.in-One.m c.args.sets.now c.true-values.result standing c.true-values.ensures;
-      value = c.keep-only.ensures.value;
+      after = c.keep_only.ensures.after ∙ one_unit (chosen (stands c.args.sets.now) ms) ms c.in-One.m c.args.sets.now c.true_values.result standing c.true_values.ensures;
+      value = c.keep_only.ensures.value;
     }
 
 pub returns-in-Several : goal.returns-in-Several

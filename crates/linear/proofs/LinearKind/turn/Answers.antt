@@ -16,8 +16,8 @@ use Rattle.linear.proofs.LinearKind.turn.Goals as goal
 pub loop-i-init : goal.loop-i-init
 loop-i-init c = (refl, sym (unchanged c.args.sets.now))
 
-pub overflow-add-spare : goal.overflow-add-spare
-overflow-add-spare c =
+pub overflow_add-spare : goal.overflow_add-spare
+overflow_add-spare c =
     let i = c.loop-i.i in
     let s = c.args.sets.now in
     let ms = (row_of c.args.row.now).members in
@@ -25,9 +25,9 @@ overflow-add-spare c =
     let here : i < length ms = omega (arith, c.loop-i-test.true, ap length same) in
     let m = get_or c.members-m-items.result.now i nobody in
     let fits : SFits w16 m.argument = search rules in
-    let l = get_or c.lowest-terms-sum.result.0 i (pos 0) in
-    let own : l ≡ low s m = filled_at (low s) ms c.lowest-terms-sum.result.0 i nobody (pos 0) here c.lowest-terms-sum.ensures.terms ∙ sym (ap (λ x. low s (get_or x i nobody)) same) in
-    slack_fits c.bound.result c.lowest-terms-sum.result.1 l c.bound.ensures.near c.lowest-terms-sum.ensures.near (subst (λ z. Near 2097152 z) (sym own) (near_low s m fits))
+    let l = get_or c.lowest_terms-sum.result.0 i (pos 0) in
+    let own : l ≡ low s m = filled_at (low s) ms c.lowest_terms-sum.result.0 i nobody (pos 0) here c.lowest_terms-sum.ensures.terms ∙ sym (ap (λ x. low s (get_or x i nobody)) same) in
+    slack_fits c.bound.result c.lowest_terms-sum.result.1 l c.bound.ensures.near c.lowest_terms-sum.ensures.near (subst (λ z. Near 2097152 z) (sym own) (near_low s m fits))
 
 pub loop-i-preserved : goal.loop-i-preserved
 loop-i-preserved c =
@@ -41,19 +41,19 @@ loop-i-preserved c =
     let m = get_or c.members-m-items.result.now i nobody in
     let fits : SFits w16 m.argument = search rules in
     let b = c.bound.result in
-    let t = c.lowest-terms-sum.result.1 in
-    let l = get_or c.lowest-terms-sum.result.0 i (pos 0) in
-    let own : l ≡ low s m = filled_at (low s) ms c.lowest-terms-sum.result.0 i nobody (pos 0) here c.lowest-terms-sum.ensures.terms ∙ sym (ap (λ x. low s (get_or x i nobody)) same) in
-    let slack = slack_is b t l c.bound.ensures.near c.lowest-terms-sum.ensures.near (subst (λ z. Near 2097152 z) (sym own) (near_low s m fits)) in
-    let kept : c.values-within.result ≡ mask 64 (within r s (get_or ms i nobody)) =
-    c.values-within.ensures
+    let t = c.lowest_terms-sum.result.1 in
+    let l = get_or c.lowest_terms-sum.result.0 i (pos 0) in
+    let own : l ≡ low s m = filled_at (low s) ms c.lowest_terms-sum.result.0 i nobody (pos 0) here c.lowest_terms-sum.ensures.terms ∙ sym (ap (λ x. low s (get_or x i nobody)) same) in
+    let slack = slack_is b t l c.bound.ensures.near c.lowest_terms-sum.ensures.near (subst (λ z. Near 2097152 z) (sym own) (near_low s m fits)) in
+    let kept : c.values_within.result ≡ mask 64 (within r s (get_or ms i nobody)) =
+    c.values_within.ensures
     ∙ ap₂ (λ x y. mask 64 (λ v. le_z (x *ℤ pos v) y)) (to_z-of_z w16 m.argument fits) slack
-    ∙ mask_within r s m b t l c.bound.ensures.value c.lowest-terms-sum.ensures.sum own
+    ∙ mask_within r s m b t l c.bound.ensures.value c.lowest_terms-sum.ensures.sum own
     ∙ ap (λ x. mask 64 (within r s (get_or x i nobody))) same
     in
-    masked_more (within r s) ms i nobody s c.loop-i.sets c.keep-only-took.new.sets c.values-within.result c.loop-i.took c.keep-only-took.result small here c.loop-i.invariant kept
-    (c.keep-only-took.ensures.after ∙ ap (λ x. cut (get_or x i nobody).voice (has c.values-within.result) c.loop-i.sets) same)
-    c.keep-only-took.ensures.value
+    masked_more (within r s) ms i nobody s c.loop-i.sets c.keep_only-took.new.sets c.values_within.result c.loop-i.took c.keep_only-took.result small here c.loop-i.invariant kept
+    (c.keep_only-took.ensures.after ∙ ap (λ x. cut (get_or x i nobody).voice (has c.values_within.result) c.loop-i.sets) same)
+    c.keep_only-took.ensures.value
 
 pub returns : goal.returns
 returns c =

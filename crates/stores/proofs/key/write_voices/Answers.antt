@@ -4,16 +4,16 @@ use Rattle.sets.specs.Sets.{fixed}
 use Rattle.stores.specs.Keys.{voice_word}
 use Rattle.stores.proofs.Writing.{voices_more}
 use Rattle.stores.proofs.key.write_voices.Goals as goal
-use Rattle.stores.proofs.key.write_voices.Goals.{then-is-fixed, else-is-fixed}
+use Rattle.stores.proofs.key.write_voices.Goals.{then-is_fixed, else-is_fixed}
 
 pub loop-i-preserved : goal.loop-i-preserved
 loop-i-preserved c =
     let s = get_or c.args.sets.now c.loop-i.i 0 in
-    let word : c.if-is-fixed.words ≡ voice_word (get_or c.args.sets.now c.loop-i.i 0) = elim c.if-is-fixed.branch [
-      | then-is-fixed w ↦ w.words-is ∙ ap (λ (b : Bool). cond b 0 (get_or c.args.sets.now c.loop-i.i 0)) (sym w.if-is-fixed.true ∙ c.is-fixed.ensures)
-      | else-is-fixed w ↦ w.words-is ∙ ap (λ (b : Bool). cond b 0 (get_or c.args.sets.now c.loop-i.i 0)) (sym w.if-is-fixed.false ∙ c.is-fixed.ensures)
+    let word : c.if-is_fixed.words ≡ voice_word (get_or c.args.sets.now c.loop-i.i 0) = elim c.if-is_fixed.branch [
+      | then-is_fixed w ↦ w.words-is ∙ ap (λ (b : Bool). cond b 0 (get_or c.args.sets.now c.loop-i.i 0)) (sym w.if-is_fixed.true ∙ c.is_fixed.ensures)
+      | else-is_fixed w ↦ w.words-is ∙ ap (λ (b : Bool). cond b 0 (get_or c.args.sets.now c.loop-i.i 0)) (sym w.if-is_fixed.false ∙ c.is_fixed.ensures)
     ] in
-    voices_more c.args.sets.now c.args.words.now c.loop-i.words c.loop-i.i c.if-is-fixed.words c.loop-i-test.true (omega arith) c.loop-i.invariant word
+    voices_more c.args.sets.now c.args.words.now c.loop-i.words c.loop-i.i c.if-is_fixed.words c.loop-i-test.true (omega arith) c.loop-i.invariant word
 
 pub returns : goal.returns
 returns c =

@@ -32,16 +32,16 @@ returns-then-key-eq0 c =
 roomy : (used n len least : ℕ) → least ≡ min n 65536 → len < least - used → used + 1 + len ≤ room_of n
 roomy used n len least e h = omega arith
 
-pub invariant-of-self : goal.invariant-of-self
-invariant-of-self c =
+pub invariant_of-self : goal.invariant_of-self
+invariant_of-self c =
     let s = c.args.self.now in
     let fit = roomy c.args.self.now.used (length c.args.self.now.words.now) (length c.args.key.now) c.min-room.result c.min-room.ensures c.if-key-room.false in
     let short : length c.args.key.now < 65536 = omega arith in
     let g = grown c.args.self.now.words.now c.write.new.self.words.now c.args.self.now.used c.args.key.now (inside (c.args.self.now.used + 1 + length c.args.key.now) (length c.args.self.now.words.now) fit)
-    c.write.ensures.words in (
-      subst (λ (n : ℕ). c.args.self.now.used + 1 + length c.args.key.now ≤ room_of n) (sym g.long) fit,
-      (subst Whole (sym g.front) (whole_push (used_words c.args.self.now) c.args.key.now c.args.self.now.whole short), tt),
-    )
+    c.write.ensures.words in record {
+      within = subst (λ (n : ℕ). c.args.self.now.used + 1 + length c.args.key.now ≤ room_of n) (sym g.long) fit;
+      whole = subst Whole (sym g.front) (whole_push (used_words c.args.self.now) c.args.key.now c.args.self.now.whole short);
+    }
 
 pub returns : goal.returns
 returns c =
