@@ -8,7 +8,7 @@ use Rattle.rows.specs.Rows.{RowData}
 use Rattle.rows.specs.declared.member.Member.{Member}
 use Rattle.sets.specs.Placings.{changed, Narrower}
 use Rattle.sets.specs.Sets.{has, mask}
-use Rattle.element.specs.Entries.{index, result, entry, reached, indexed, resulted}
+use Rattle.element.specs.Entries.{index, result_voice, entry, reached, indexed, resulted}
 use Rattle.narrowing.specs.Shared.{cut}
 use Rattle.sets.proofs.Membership.{has_suc}
 use Rattle.sets.proofs.Masks.{mask_is, has_or, only_mask, none_mask}
@@ -140,24 +140,24 @@ results_all ms left i results indices h small e =
 
 -- ---- the two steps of a turn
 
-pub index_cut : (r : RowData) (s : List ℕ) (x results kept : ℕ) (ms : List Member) → x ≡ index r → results ≡ get_or s (result r) 0 → ms ≡ r.members
+pub index_cut : (r : RowData) (s : List ℕ) (x results kept : ℕ) (ms : List Member) → x ≡ index r → results ≡ get_or s (result_voice r) 0 → ms ≡ r.members
     → kept ≡ mask 64 (λ i. ltb i (length ms) && has results (entry ms i)) → cut x (has kept) s ≡ indexed r s
 index_cut r s x results kept ms a b m e =
     cut_same x (has kept) (λ i. ltb i (length ms) && has results (entry ms i)) s (members_of kept (λ i. ltb i (length ms) && has results (entry ms i)) e)
     ∙ ap (λ (i : ℕ). cut i (λ j. ltb j (length ms) && has results (entry ms j)) s) a
     ∙ ap (λ (y : ℕ). cut (index r) (λ j. ltb j (length ms) && has y (entry ms j)) s) b
-    ∙ ap (λ (l : List Member). cut (index r) (λ j. ltb j (length l) && has (get_or s (result r) 0) (entry l j)) s) m
+    ∙ ap (λ (l : List Member). cut (index r) (λ j. ltb j (length l) && has (get_or s (result_voice r) 0) (entry l j)) s) m
 
-pub result_cut : (r : RowData) (s : List ℕ) (y indices kept : ℕ) (ms : List Member) → y ≡ result r → indices ≡ get_or s (index r) 0 → ms ≡ r.members
+pub result_cut : (r : RowData) (s : List ℕ) (y indices kept : ℕ) (ms : List Member) → y ≡ result_voice r → indices ≡ get_or s (index r) 0 → ms ≡ r.members
     → kept ≡ mask 64 (reached ms (has indices)) → cut y (has kept) s ≡ resulted r s
 result_cut r s y indices kept ms a b m e =
     cut_same y (has kept) (reached ms (has indices)) s (members_of kept (reached ms (has indices)) e)
     ∙ ap (λ (i : ℕ). cut i (reached ms (has indices)) s) a
-    ∙ ap (λ (x : ℕ). cut (result r) (reached ms (has x)) s) b
-    ∙ ap (λ (l : List Member). cut (result r) (reached l (has (get_or s (index r) 0))) s) m
+    ∙ ap (λ (x : ℕ). cut (result_voice r) (reached ms (has x)) s) b
+    ∙ ap (λ (l : List Member). cut (result_voice r) (reached l (has (get_or s (index r) 0))) s) m
 
 pub both_steps : (r : RowData) (t u s : List ℕ) → Small s → u ≡ indexed r s → t ≡ resulted r u → (changed u s || changed t u) ≡ changed t s
 both_steps r t u s h a b =
-    changed_then t u s (subst Small (sym a) (cut_small (index r) (λ i. ltb i (length r.members) && has (get_or s (result r) 0) (entry r.members i)) s h)) h
-    (subst (λ (x : List ℕ). Narrower x u) (sym b) (cut_narrower (result r) (reached r.members (has (get_or u (index r) 0))) u))
-    (subst (λ (x : List ℕ). Narrower x s) (sym a) (cut_narrower (index r) (λ i. ltb i (length r.members) && has (get_or s (result r) 0) (entry r.members i)) s))
+    changed_then t u s (subst Small (sym a) (cut_small (index r) (λ i. ltb i (length r.members) && has (get_or s (result_voice r) 0) (entry r.members i)) s h)) h
+    (subst (λ (x : List ℕ). Narrower x u) (sym b) (cut_narrower (result_voice r) (reached r.members (has (get_or u (index r) 0))) u))
+    (subst (λ (x : List ℕ). Narrower x s) (sym a) (cut_narrower (index r) (λ i. ltb i (length r.members) && has (get_or s (result_voice r) 0) (entry r.members i)) s))

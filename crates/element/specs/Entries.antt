@@ -12,8 +12,8 @@ use Rattle.narrowing.specs.Shared.{cut, shaped, verdict, settled, open_with}
 abbrev pub index : RowData → ℕ
 index r = byte r 1
 
-abbrev pub result : RowData → ℕ
-result r = byte r 2
+abbrev pub result_voice : RowData → ℕ
+result_voice r = byte r 2
 
 -- entry i, and 64 where there is none
 abbrev pub entry : List Member → ℕ → ℕ
@@ -28,11 +28,11 @@ reached (m ∷ ms) f v = (f zero && unsigned_abs m.argument == v) || reached ms 
 
 -- i leaves the index's set unless there is an entry i and it is in the result's set
 abbrev pub indexed : RowData → List ℕ → List ℕ
-indexed r s = cut (index r) (λ i. nat_lt i (length r.members) && has (slice_index s (result r)) (entry r.members i)) s
+indexed r s = cut (index r) (λ i. nat_lt i (length r.members) && has (slice_index s (result_voice r)) (entry r.members i)) s
 
 -- v leaves the result's set unless it is entry i for some i in the index's set
 abbrev pub resulted : RowData → List ℕ → List ℕ
-resulted r s = cut (result r) (λ v. reached r.members (has (slice_index s (index r))) v) s
+resulted r s = cut (result_voice r) (λ v. reached r.members (has (slice_index s (index r))) v) s
 
 -- there is an entry i and it is v
 abbrev pub meets : RowData → ℕ → ℕ → Bool
@@ -56,8 +56,8 @@ abbrev pub element : KindMeaning
 element = record {
   letter = 0x45;
   body_length = 3;
-  accepts = λ r n. verdict (shaped 0x45 3 r) (nat_lt (index r) n && nat_lt (result r) n) (element_rule r);
-  holds = λ r p. meets r (slice_index p (index r)) (slice_index p (result r));
+  accepts = λ r n. verdict (shaped 0x45 3 r) (nat_lt (index r) n && nat_lt (result_voice r) n) (element_rule r);
+  holds = λ r p. meets r (slice_index p (index r)) (slice_index p (result_voice r));
   turn = λ r s. resulted r (indexed r s);
-  trace = λ r s. element_trace r (slice_index s (index r)) (slice_index s (result r)) (fixed (slice_index s (index r))) (fixed (slice_index s (result r)));
+  trace = λ r s. element_trace r (slice_index s (index r)) (slice_index s (result_voice r)) (fixed (slice_index s (index r))) (fixed (slice_index s (result_voice r)));
 }

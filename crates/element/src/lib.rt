@@ -7,7 +7,7 @@ ghost use Rattle.sets.specs.Sets.{has, mask};
 ghost use Rattle.sets.specs.Placings.{all, changed};
 ghost use Rattle.rows.specs.Views.{row_of};
 ghost use Rattle.narrowing.specs.Shared.{settled, open_with};
-ghost use Rattle.element.specs.Entries.{index, result, entry, reached, indexed, resulted, is_entry, element};
+ghost use Rattle.element.specs.Entries.{index, result_voice, entry, reached, indexed, resulted, is_entry, element};
 ghost use Rattle.element.specs.EntriesLaws.{element_lawful};
 
 use narrowing::{is_shaped, judge, keep_only, set_of};
@@ -20,20 +20,20 @@ use sets::{ValueSet, contains, only_value, single};
 
 // The index voice and the result voice.
 fn index_voice(row: &Row) -> u16
-    ensures* { λ r. ⌜ r ≡ index (row_of row.now) ⌝ }
+    ensures { result ≡ index (row_of row.now) }
 {
     u16::from(row.byte(1))
 }
 
 fn result_voice(row: &Row) -> u16
-    ensures* { λ r. ⌜ r ≡ result (row_of row.now) ⌝ }
+    ensures { result ≡ result_voice (row_of row.now) }
 {
     u16::from(row.byte(2))
 }
 
 // The value that a member stands for as an entry.
 fn value_of(m: Member) -> u32
-    ensures* { λ r. ⌜ r ≡ unsigned_abs m.argument ⌝ }
+    ensures { result ≡ unsigned_abs m.argument }
 {
     u32::from(m.argument.unsigned_abs())
 }
@@ -43,7 +43,7 @@ const NO_ENTRY: u32 = 64;
 
 // The entry at a place.
 fn entry_at(entries: &[Member], place: u32) -> u32
-    ensures* { λ r. ⌜ r ≡ entry entries.now place ⌝ }
+    ensures { result ≡ entry entries.now place }
 {
     let i = place as usize;
     if i < entries.len() {
@@ -55,14 +55,14 @@ fn entry_at(entries: &[Member], place: u32) -> u32
 
 // Whether there is an entry at the place and it is the value.
 fn is_met(entries: &[Member], place: u32, value: u32) -> bool
-    ensures* { λ r. ⌜ r ≡ (nat_lt place (length entries.now) && value == entry entries.now place) ⌝ }
+    ensures { result ≡ (nat_lt place (length entries.now) && value == entry entries.now place) }
 {
     (place as usize) < entries.len() && value == entry_at(entries, place)
 }
 
 // The places of the entries that are among the results.
 fn index_values(entries: &[Member], results: ValueSet) -> ValueSet
-    ensures* { λ r. ⌜ r ≡ mask 64 (λ i. nat_lt i (length entries.now) && has results (entry entries.now i)) ⌝ }
+    ensures { result ≡ mask 64 (λ i. nat_lt i (length entries.now) && has results (entry entries.now i)) }
 {
     let mut indices = 0;
     // the set of the place at hand; empty from place 64 on
@@ -78,7 +78,7 @@ fn index_values(entries: &[Member], results: ValueSet) -> ValueSet
 
 // The entries at the indices.
 fn result_values(entries: &[Member], indices: ValueSet) -> ValueSet
-    ensures* { λ r. ⌜ r ≡ mask 64 (reached entries.now (has indices)) ⌝ }
+    ensures { result ≡ mask 64 (reached entries.now (has indices)) }
 {
     let mut results = 0;
     // the indices from the place at hand on, counted from there
@@ -94,8 +94,8 @@ fn result_values(entries: &[Member], indices: ValueSet) -> ValueSet
 
 // The index keeps only the places of entries that the result's set has; says whether one went.
 fn narrow_index(row: &Row, sets: &mut [ValueSet]) -> bool
-    ensures* after { λ _. ⌜ sets.new ≡ indexed (row_of row.now) sets.old ⌝ }
-    ensures* value { λ r. ⌜ r ≡ changed sets.new sets.old ⌝ }
+    ensures after { sets.new ≡ indexed (row_of row.now) sets.old }
+    ensures value { result ≡ changed sets.new sets.old }
 {
     let results = set_of(sets, result_voice(row));
     let indices = index_values(row.members(), results);
@@ -104,8 +104,8 @@ fn narrow_index(row: &Row, sets: &mut [ValueSet]) -> bool
 
 // The result keeps only the entries at the places that the index's set has; says whether one went.
 fn narrow_result(row: &Row, sets: &mut [ValueSet]) -> bool
-    ensures* after { λ _. ⌜ sets.new ≡ resulted (row_of row.now) sets.old ⌝ }
-    ensures* value { λ r. ⌜ r ≡ changed sets.new sets.old ⌝ }
+    ensures after { sets.new ≡ resulted (row_of row.now) sets.old }
+    ensures value { result ≡ changed sets.new sets.old }
 {
     let indices = set_of(sets, index_voice(row));
     let results = result_values(row.members(), indices);
@@ -117,14 +117,14 @@ const LAST_VALUE: i16 = 63;
 
 // Whether a member is an entry: a value from 0 to 63, and a voice of 0, which names none.
 fn is_entry(m: Member) -> bool
-    ensures* { λ r. ⌜ r ≡ is_entry m ⌝ }
+    ensures { result ≡ is_entry m }
 {
     m.voice == 0 && m.argument >= 0 && m.argument <= LAST_VALUE
 }
 
 // Whether all members are entries.
 fn are_entries(members: &[Member]) -> bool
-    ensures* { λ r. ⌜ r ≡ all is_entry members.now ⌝ }
+    ensures { result ≡ all is_entry members.now }
 {
     for m in members {
         if !is_entry(*m) {
@@ -136,7 +136,7 @@ fn are_entries(members: &[Member]) -> bool
 
 // The trace of a row that is not settled.
 fn open_with(content: u32) -> Trace
-    ensures* { λ r. ⌜ r ≡ open_with content ⌝ }
+    ensures { result ≡ open_with content }
 {
     Trace {
         mark: 1,
@@ -146,7 +146,7 @@ fn open_with(content: u32) -> Trace
 
 // The trace of a row whose voices are both fixed.
 fn both_fixed(holds: bool) -> Trace
-    ensures* { λ r. ⌜ r ≡ (if holds then settled else open_with 0) ⌝ }
+    ensures { result ≡ (if holds then settled else open_with 0) }
 {
     if holds {
         Trace {
