@@ -7,7 +7,7 @@ use Rattle.search.specs.Search.Place.{fresh, going, found, none}
 use Rattle.search.specs.Calls.{Table, Goes, Solved}
 use Rattle.engine.specs.Levels.{levels_at}
 use Rattle.engine.specs.Places.{place_of}
-use Rattle.engine.specs.declared.search.Search.{Search}
+use Rattle.engine.specs.declared.state.Search.{Search}
 use Rattle.engine.specs.declared.level.End.TheVariants.{Fresh}
 use Rattle.engine.specs.declared.outcome.Outcome.{Outcome}
 use Rattle.engine.specs.declared.outcome.Outcome.TheVariants.{Stopped, Found, None}

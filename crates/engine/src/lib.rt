@@ -8,5 +8,5 @@ pub mod level;
 pub mod node;
 pub mod open;
 pub mod outcome;
-pub mod search;
+pub mod state;
 pub mod values;

@@ -18,7 +18,7 @@ use Rattle.engine.specs.declared.level.End.{End}
 use Rattle.engine.specs.declared.level.End.TheVariants.{Fresh, Found, Exhausted}
 use Rattle.engine.specs.declared.outcome.Outcome.{Outcome}
 use Rattle.engine.specs.declared.outcome.Outcome.TheVariants as out
-use Rattle.engine.specs.declared.search.Search.{Search}
+use Rattle.engine.specs.declared.state.Search.{Search}
 use Rattle.engine.specs.Levels.{levels_at}
 use Rattle.engine.specs.Places.{place_of}
 use Rattle.engine.specs.Searches.{place, table_of, Begun, outcome_of, Runs}

@@ -5,7 +5,7 @@ ghost use Rattle.rows.specs.Views.{rows_of};
 ghost use Rattle.search.specs.Limits.{most_voices, most_rows, most_bytes};
 ghost use Rattle.engine.specs.Searches.{voice_count};
 
-use engine::search::Search;
+use engine::state::Search;
 use rows::bank::Bank;
 use rows::row::Row;
 use sets::ValueSet;

@@ -12,7 +12,7 @@ use Rattle.search.specs.Calls.Answer.{wrote}
 use Rattle.search.proofs.HistoryFacts.{not_both}
 use Rattle.engine.specs.declared.outcome.Outcome.{Outcome}
 use Rattle.engine.specs.declared.outcome.Outcome.TheVariants.{Found}
-use Rattle.engine.specs.declared.search.Search.{Search}
+use Rattle.engine.specs.declared.state.Search.{Search}
 use Rattle.engine.specs.Searches.{place, levels_of, table_of, outcome_of}
 use Rattle.planner.specs.declared.refusal.Refusal.{Refusal}
 use Rattle.planner.specs.Shown.{outcome_answer, read_answer}

@@ -3,7 +3,7 @@ ghost use Rattle.std.specs.Prelude.{◌≡◌, IfOk, vec_len};
 ghost use Rattle.planner.specs.Shown.{Begins};
 
 use crate::table::{MOST_ROWS, MOST_VOICES, Table};
-use engine::search::Search;
+use engine::state::Search;
 use rows::bank::Bank;
 use rows::row::Row;
 use std::alloc::{AllocError, Global};

@@ -12,7 +12,7 @@ returns-in-Some g c =
     let k = key m (rows_of c.args.rows.now) c.args.sets.now in
     let h : length k ≤ length c.args.words.now = omega (arith, key_length m c.args.rows.now c.args.sets.now, c.requires) in
     c.find.ensures
-    ∙ ap (λ (x : List ℕ). member x (g.S.Store.view c.args.store.now).held) (key_front k c.args.words.now c.write-key.new.words c.in-Some.n h c.in-Some.ensures.value c.in-Some.ensures.after)
+    ∙ ap (λ (x : List ℕ). member x (g.S.Store.view c.args.store.now).held) (key_front k c.args.words.now c.write_key.new.words c.in-Some.n h c.in-Some.ensures.value c.in-Some.ensures.after)
 
 pub returns-in-None : goal.returns-in-None
 returns-in-None g c =

@@ -21,7 +21,7 @@ returns-in-Some g c =
     let part : ℕ → List ℕ = λ n. key m (rows_of c.args.rows.now) (take n (drop c.args.at c.args.trail.now)) in
     let e : (c.args.at + c.args.n) - c.args.at ≡ c.args.n = omega arith in
     let h = room m c.args.rows.now c.args.trail.now c.args.words.now c.args.at c.args.n c.requires.words c.requires.inside in
-    let f = key_front (part ((c.args.at + c.args.n) - c.args.at)) c.args.words.now c.write-key.new.words c.in-Some.length h c.in-Some.ensures.value c.in-Some.ensures.after in
+    let f = key_front (part ((c.args.at + c.args.n) - c.args.at)) c.args.words.now c.write_key.new.words c.in-Some.length h c.in-Some.ensures.value c.in-Some.ensures.after in
     subst (λ (x : List ℕ). Keeps (g.S.Store.view c.args.store.now) x c.keep.result (g.S.Store.view c.keep.new.self)) (f ∙ ap part e) c.keep.ensures
 
 pub returns-in-None : goal.returns-in-None

@@ -5,32 +5,32 @@ use Rattle.engine.specs.declared.level.End.TheVariants.{Fresh, Found, Exhausted}
 use Rattle.engine.proofs.Leveled.{below_is, room_above, room_for, levels_push, voiced_fewer, voiced_push, lasting_push, opened_dead, opened_hit, opened_solution, opened_branch}
 use Rattle.engine.proofs.open.open_node.Goals as goal
 
-pub fixed-below-k-requires : goal.fixed-below-k-requires
-fixed-below-k-requires g c = record {
+pub fixed_below-k-requires : goal.fixed_below-k-requires
+fixed_below-k-requires g c = record {
   inside = omega (arith, c.requires.deep, c.requires.levels);
   voiced = λ i h. let v = c.requires.voiced i h in (v.0, omega (arith, v.1, c.requires.levels));
 }
 
-pub back-up-d-requires : goal.back-up-d-requires
-back-up-d-requires g c = record {
+pub back_up-d-requires : goal.back_up-d-requires
+back_up-d-requires g c = record {
   words = omega (arith, c.requires.words);
   trail = room_above c.args.depth (length c.args.sets.now) (length c.args.trail.now) c.requires.deep c.requires.trail;
   levels = omega (arith, c.requires.deep, c.requires.levels);
 }
 
-pub back-up-d-requires-in-Hit : goal.back-up-d-requires-in-Hit
-back-up-d-requires-in-Hit g c = record {
+pub back_up-d-requires-in-Hit : goal.back_up-d-requires-in-Hit
+back_up-d-requires-in-Hit g c = record {
   words = omega (arith, c.requires.words);
   trail = room_above c.args.depth (length c.args.sets.now) (length c.args.trail.now) c.requires.deep c.requires.trail;
   levels = omega (arith, c.requires.deep, c.requires.levels);
 }
 
-pub write-level-requires : goal.write-level-requires
-write-level-requires g c =
+pub write_level-requires : goal.write_level-requires
+write_level-requires g c =
     let n = length c.args.sets.now in
     let b = c.in-Branch.ensures.branches in
     let l : length c.classify.new.sets ≡ n = omega arith in
-    let h : c.args.depth < n = omega (arith, b.0, b.1, c.fixed-below-k.ensures.bound) in
+    let h : c.args.depth < n = omega (arith, b.0, b.1, c.fixed_below-k.ensures.bound) in
     let r = room_for c.args.depth n (length c.args.trail.now) h c.requires.trail in
     omega (arith, r, l)
 
@@ -39,13 +39,13 @@ returns-in-Dead g c =
     let n = length c.args.sets.now in
     let ls = levels_at n c.args.trail.now c.args.levels.now c.args.depth in
     record {
-      deep = omega (arith, c.back-up-d.ensures.fewer, c.requires.deep);
+      deep = omega (arith, c.back_up-d.ensures.fewer, c.requires.deep);
       few = omega (arith, c.requires.deep);
-      voiced = voiced_fewer n c.args.levels.now c.args.depth c.back-up-d.result c.back-up-d.ensures.fewer c.requires.voiced;
-      lasts = c.back-up-d.ensures.lasts;
-      opens = opened_dead g.B.Bank.meaning (rows_of c.args.rows.now) c.args.sets.now c.classify.new.sets ls (g.S.Store.view c.args.store.now) c.fixed-below-k.result
-          (g.S.Store.view c.back-up-d.new.store) (levels_at n c.args.trail.now c.args.levels.now c.back-up-d.result) c.classify.new.sets (c.args.depth - c.back-up-d.result)
-          c.in-Dead.ensures.after (c.fixed-below-k.ensures.value ∙ below_is n c.args.trail.now c.args.levels.now c.args.depth) c.in-Dead.ensures.value c.back-up-d.ensures.backs;
+      voiced = voiced_fewer n c.args.levels.now c.args.depth c.back_up-d.result c.back_up-d.ensures.fewer c.requires.voiced;
+      lasts = c.back_up-d.ensures.lasts;
+      opens = opened_dead g.B.Bank.meaning (rows_of c.args.rows.now) c.args.sets.now c.classify.new.sets ls (g.S.Store.view c.args.store.now) c.fixed_below-k.result
+          (g.S.Store.view c.back_up-d.new.store) (levels_at n c.args.trail.now c.args.levels.now c.back_up-d.result) c.classify.new.sets (c.args.depth - c.back_up-d.result)
+          c.in-Dead.ensures.after (c.fixed_below-k.ensures.value ∙ below_is n c.args.trail.now c.args.levels.now c.args.depth) c.in-Dead.ensures.value c.back_up-d.ensures.backs;
     }
 
 pub returns-in-Solution : goal.returns-in-Solution
@@ -57,8 +57,8 @@ returns-in-Solution g c =
       few = omega arith;
       voiced = λ i h. absurd (omega arith);
       lasts = λ h. absurd (omega arith);
-      opens = opened_solution g.B.Bank.meaning (rows_of c.args.rows.now) c.args.sets.now c.classify.new.sets ls (g.S.Store.view c.args.store.now) c.fixed-below-k.result
-          c.in-Solution.ensures.after (c.fixed-below-k.ensures.value ∙ below_is n c.args.trail.now c.args.levels.now c.args.depth) c.in-Solution.ensures.value;
+      opens = opened_solution g.B.Bank.meaning (rows_of c.args.rows.now) c.args.sets.now c.classify.new.sets ls (g.S.Store.view c.args.store.now) c.fixed_below-k.result
+          c.in-Solution.ensures.after (c.fixed_below-k.ensures.value ∙ below_is n c.args.trail.now c.args.levels.now c.args.depth) c.in-Solution.ensures.value;
     }
 
 pub returns-in-Hit : goal.returns-in-Hit
@@ -66,13 +66,13 @@ returns-in-Hit g c =
     let n = length c.args.sets.now in
     let ls = levels_at n c.args.trail.now c.args.levels.now c.args.depth in
     record {
-      deep = omega (arith, c.back-up-d-in-Hit.ensures.fewer, c.requires.deep);
+      deep = omega (arith, c.back_up-d-in-Hit.ensures.fewer, c.requires.deep);
       few = omega (arith, c.requires.deep);
-      voiced = voiced_fewer n c.args.levels.now c.args.depth c.back-up-d-in-Hit.result c.back-up-d-in-Hit.ensures.fewer c.requires.voiced;
-      lasts = c.back-up-d-in-Hit.ensures.lasts;
-      opens = opened_hit g.B.Bank.meaning (rows_of c.args.rows.now) c.args.sets.now c.classify.new.sets ls (g.S.Store.view c.args.store.now) c.fixed-below-k.result
-          (g.S.Store.view c.back-up-d-in-Hit.new.store) (levels_at n c.args.trail.now c.args.levels.now c.back-up-d-in-Hit.result) c.classify.new.sets (c.args.depth - c.back-up-d-in-Hit.result)
-          c.in-Hit.ensures.after (c.fixed-below-k.ensures.value ∙ below_is n c.args.trail.now c.args.levels.now c.args.depth) c.in-Hit.ensures.value c.back-up-d-in-Hit.ensures.backs;
+      voiced = voiced_fewer n c.args.levels.now c.args.depth c.back_up-d-in-Hit.result c.back_up-d-in-Hit.ensures.fewer c.requires.voiced;
+      lasts = c.back_up-d-in-Hit.ensures.lasts;
+      opens = opened_hit g.B.Bank.meaning (rows_of c.args.rows.now) c.args.sets.now c.classify.new.sets ls (g.S.Store.view c.args.store.now) c.fixed_below-k.result
+          (g.S.Store.view c.back_up-d-in-Hit.new.store) (levels_at n c.args.trail.now c.args.levels.now c.back_up-d-in-Hit.result) c.classify.new.sets (c.args.depth - c.back_up-d-in-Hit.result)
+          c.in-Hit.ensures.after (c.fixed_below-k.ensures.value ∙ below_is n c.args.trail.now c.args.levels.now c.args.depth) c.in-Hit.ensures.value c.back_up-d-in-Hit.ensures.backs;
     }
 
 pub returns-in-Branch : goal.returns-in-Branch
@@ -82,17 +82,17 @@ returns-in-Branch g c =
     let s = c.classify.new.sets in
     let b = c.in-Branch.ensures.branches in
     let l : length s ≡ n = omega arith in
-    let h : c.args.depth < n = omega (arith, b.0, b.1, c.fixed-below-k.ensures.bound) in
+    let h : c.args.depth < n = omega (arith, b.0, b.1, c.fixed_below-k.ensures.bound) in
     let i : c.args.depth < length c.args.levels.now = omega (arith, c.requires.levels) in
-    let here : take n (drop (c.args.depth * n) c.write-level.new.trail) ≡ s = ap (λ j. take j (drop (c.args.depth * n) c.write-level.new.trail)) (sym l) ∙ c.write-level.ensures.here in
-    let push = levels_push n c.args.trail.now c.write-level.new.trail c.args.levels.now c.args.depth c.in-Branch.v (get_or s c.in-Branch.v 0) s i here c.write-level.ensures.below in
+    let here : take n (drop (c.args.depth * n) c.write_level.new.trail) ≡ s = ap (λ j. take j (drop (c.args.depth * n) c.write_level.new.trail)) (sym l) ∙ c.write_level.ensures.here in
+    let push = levels_push n c.args.trail.now c.write_level.new.trail c.args.levels.now c.args.depth c.in-Branch.v (get_or s c.in-Branch.v 0) s i here c.write_level.ensures.below in
     record {
       deep = omega arith;
       few = omega arith;
-      voiced = voiced_push n c.args.levels.now c.args.depth c.in-Branch.v (get_or s c.in-Branch.v 0) i (omega (arith, b.0, c.fixed-below-k.ensures.bound)) (omega (arith, b.1)) c.requires.voiced;
+      voiced = voiced_push n c.args.levels.now c.args.depth c.in-Branch.v (get_or s c.in-Branch.v 0) i (omega (arith, b.0, c.fixed_below-k.ensures.bound)) (omega (arith, b.1)) c.requires.voiced;
       lasts = lasting_push c.args.levels.now c.args.depth c.in-Branch.v (get_or s c.in-Branch.v 0) i b.2;
-      opens = opened_branch g.B.Bank.meaning (rows_of c.args.rows.now) c.args.sets.now s ls (g.S.Store.view c.args.store.now) c.fixed-below-k.result
+      opens = opened_branch g.B.Bank.meaning (rows_of c.args.rows.now) c.args.sets.now s ls (g.S.Store.view c.args.store.now) c.fixed_below-k.result
           (record { sets = s; voice = c.in-Branch.v; left = get_or s c.in-Branch.v 0 })
-          (levels_at n c.write-level.new.trail (set c.args.levels.now c.args.depth (record { voice = c.in-Branch.v; left = get_or s c.in-Branch.v 0 })) (c.args.depth + 1)) Exhausted s
-          c.in-Branch.ensures.after (c.fixed-below-k.ensures.value ∙ below_is n c.args.trail.now c.args.levels.now c.args.depth) c.in-Branch.ensures.value push;
+          (levels_at n c.write_level.new.trail (set c.args.levels.now c.args.depth (record { voice = c.in-Branch.v; left = get_or s c.in-Branch.v 0 })) (c.args.depth + 1)) Exhausted s
+          c.in-Branch.ensures.after (c.fixed_below-k.ensures.value ∙ below_is n c.args.trail.now c.args.levels.now c.args.depth) c.in-Branch.ensures.value push;
     }

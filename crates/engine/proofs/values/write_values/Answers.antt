@@ -9,9 +9,9 @@ loop-i-preserved c =
     let s = c.args.sets.now in
     let i = c.loop-i.i in
     let old = c.args.out.now in
-    ap (λ (x : List ℕ). set x i c.least-value.result) c.loop-i.invariant
-    ∙ put_more (map least (take i s)) old i c.least-value.result (length-map (take i s) least ∙ length-take-le i s (omega arith)) (omega arith)
-    ∙ ap (λ (x : ℕ). (map least (take i s) ++ (x ∷ [])) ++ drop (i + 1) old) c.least-value.ensures
+    ap (λ (x : List ℕ). set x i c.least_value.result) c.loop-i.invariant
+    ∙ put_more (map least (take i s)) old i c.least_value.result (length-map (take i s) least ∙ length-take-le i s (omega arith)) (omega arith)
+    ∙ ap (λ (x : ℕ). (map least (take i s) ++ (x ∷ [])) ++ drop (i + 1) old) c.least_value.ensures
     ∙ ap (λ (x : List ℕ). x ++ drop (i + 1) old) (sym (map_more least s i 0 c.loop-i-test.true))
 
 pub returns : goal.returns

@@ -7,16 +7,16 @@ pub returns-then-v-sets : goal.returns-then-v-sets
 returns-then-v-sets g c = record {
   after = c.propagate.ensures;
   value = node_solution g.B.Bank.meaning (rows_of c.args.rows.now) (g.S.Store.view c.args.store.now) c.args.k c.propagate.new.sets
-      (sym c.if-has-empty.ensures) (none_open c.args.k c.propagate.new.sets c.first-open-v.result c.first-open-v.ensures c.if-v-sets.true);
+      (sym c.if-has_empty.ensures) (none_open c.args.k c.propagate.new.sets c.first_open-v.result c.first_open-v.ensures c.if-v-sets.true);
   branches = tt;
 }
 
-pub returns-then-find-key : goal.returns-then-find-key
-returns-then-find-key g c = record {
+pub returns-then-find_key : goal.returns-then-find_key
+returns-then-find_key g c = record {
   after = c.propagate.ensures;
   value = node_hit g.B.Bank.meaning (rows_of c.args.rows.now) (g.S.Store.view c.args.store.now) c.args.k c.propagate.new.sets
-      (sym c.if-has-empty.ensures) (some_open c.args.k c.propagate.new.sets c.first-open-v.result c.first-open-v.ensures c.if-v-sets.false)
-      (sym c.if-find-key.ensures);
+      (sym c.if-has_empty.ensures) (some_open c.args.k c.propagate.new.sets c.first_open-v.result c.first_open-v.ensures c.if-v-sets.false)
+      (sym c.if-find_key.ensures);
   branches = tt;
 }
 
@@ -24,12 +24,12 @@ pub returns : goal.returns
 returns g c = record {
   after = c.propagate.ensures;
   value = node_branch g.B.Bank.meaning (rows_of c.args.rows.now) (g.S.Store.view c.args.store.now) c.args.k c.propagate.new.sets
-      c.first-open-v.result c.first-open-v.ensures
-      (sym c.if-has-empty.ensures) (some_open c.args.k c.propagate.new.sets c.first-open-v.result c.first-open-v.ensures c.if-v-sets.false)
-      (sym c.if-find-key.ensures);
+      c.first_open-v.result c.first_open-v.ensures
+      (sym c.if-has_empty.ensures) (some_open c.args.k c.propagate.new.sets c.first_open-v.result c.first_open-v.ensures c.if-v-sets.false)
+      (sym c.if-find_key.ensures);
   branches = (
-    open_from c.args.k c.propagate.new.sets c.first-open-v.result c.first-open-v.ensures,
+    open_from c.args.k c.propagate.new.sets c.first_open-v.result c.first_open-v.ensures,
     c.if-v-sets.false,
-    not_empty c.propagate.new.sets c.first-open-v.result (sym c.if-has-empty.ensures) c.if-v-sets.false,
+    not_empty c.propagate.new.sets c.first_open-v.result (sym c.if-has_empty.ensures) c.if-v-sets.false,
   );
 }

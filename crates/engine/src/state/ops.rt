@@ -6,7 +6,7 @@ ghost use Rattle.engine.specs.Searches.{Begun, voice_count, node_sets, place, ou
 
 use crate::level::{End, LevelRecord};
 use crate::outcome::Outcome;
-use crate::search::Search;
+use crate::state::Search;
 use sets::ValueSet;
 use std::alloc::{AllocError, Global};
 

@@ -2,7 +2,7 @@ use Rattle.std.proofs.Common.{◌≡◌, ◌+◌, ◌-◌, ◌<◌, ◌≤◌, s
 use Rattle.rows.specs.Views.{rows_of}
 use Rattle.engine.specs.Searches.{table_of}
 use Rattle.engine.proofs.Searching.{ran_none, ran_then, runs_by}
-use Rattle.engine.proofs.search.Search.run.Goals as goal
+use Rattle.engine.proofs.state.Search.run.Goals as goal
 
 pub loop-left-init : goal.loop-left-init
 loop-left-init g c = (
@@ -12,12 +12,12 @@ loop-left-init g c = (
   ran_none g.B.Bank.meaning (table_of c.args.voices.now (rows_of c.args.rows.now) c.args.self.now) (g.S.Store.view c.args.store.now) (c.args.budget - c.args.budget) (omega arith),
 )
 
-pub returns-then-is-over : goal.returns-then-is-over
-returns-then-is-over g c = record {
+pub returns-then-is_over : goal.returns-then-is_over
+returns-then-is_over g c = record {
   runs = runs_by g.B.Bank.meaning c.args.budget (c.args.budget - c.loop-left.left)
       (table_of c.args.voices.now (rows_of c.args.rows.now) c.args.self.now) (g.S.Store.view c.args.store.now)
       (table_of c.args.voices.now (rows_of c.args.rows.now) c.loop-left.self) (g.S.Store.view c.loop-left.store)
-      (omega arith) c.loop-left.invariant.3 (λ j. inl (sym c.if-is-over.ensures));
+      (omega arith) c.loop-left.invariant.3 (λ j. inl (sym c.if-is_over.ensures));
   voices = c.loop-left.invariant.2;
 }
 

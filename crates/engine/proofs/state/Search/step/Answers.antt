@@ -6,12 +6,12 @@ use Rattle.rows.specs.Views.{rows_of}
 use Rattle.engine.specs.Levels.{levels_at}
 use Rattle.engine.specs.Places.{place_of}
 use Rattle.engine.proofs.Searching.{voiced_moved, lasting_moved, moved, ran_one}
-use Rattle.engine.proofs.search.Search.step.Goals as goal
+use Rattle.engine.proofs.state.Search.step.Goals as goal
 
 pub advance-next-requires : goal.advance-next-requires
 advance-next-requires g c =
     let s = c.args.self.now in
-    let n = length c.deref-mut.result.now in
+    let n = length c.deref_mut.result.now in
     let e : n ≡ vec_len s.sets = omega arith in
     let h : n ≤ 80 = omega (arith, s.few) in
     record {
@@ -24,46 +24,31 @@ advance-next-requires g c =
       lasts = search rules;
     }
 
-pub invariant-of-self : goal.invariant-of-self
-invariant-of-self g c =
+pub invariant_of-self : goal.invariant_of-self
+invariant_of-self g c =
     let s = c.args.self.now in
     let e : length c.advance-next.new.levels ≡ s.levels.len = omega arith in
-    let n : length c.deref-mut.result.now ≡ vec_len s.sets = omega arith in
-    let f = with_items_is s.levels c.advance-next.new.levels e in (
-      omega (arith, c.requires.few),
-      (
-        omega (arith, s.spent, c.advance-next.ensures.few),
-        (
-          s.few,
-          (
-            s.room,
-            (
-              s.worded,
-              (
-                s.broad,
-                (
-                  s.leveled,
-                  (
-                    omega (arith, c.advance-next.ensures.deep),
-                    (
-                      voiced_moved (vec_len s.sets) (length c.deref-mut.result.now) c.advance-next.new.levels (vec_items (with_items s.levels c.advance-next.new.levels)) c.advance-next.result.depth n f c.advance-next.ensures.voiced,
-                      (lasting_moved c.advance-next.new.levels (vec_items (with_items s.levels c.advance-next.new.levels)) c.advance-next.result.depth f c.advance-next.ensures.lasts, tt),
-                    ),
-                  ),
-                ),
-              ),
-            ),
-          ),
-        ),
-      ),
-    )
+    let n : length c.deref_mut.result.now ≡ vec_len s.sets = omega arith in
+    let f = with_items_is s.levels c.advance-next.new.levels e in
+    record {
+      bounded = omega (arith, c.requires.few);
+      spent = omega (arith, s.spent, c.advance-next.ensures.few);
+      few = s.few;
+      room = s.room;
+      worded = s.worded;
+      broad = s.broad;
+      leveled = s.leveled;
+      deep = omega (arith, c.advance-next.ensures.deep);
+      voiced = voiced_moved (vec_len s.sets) (length c.deref_mut.result.now) c.advance-next.new.levels (vec_items (with_items s.levels c.advance-next.new.levels)) c.advance-next.result.depth n f c.advance-next.ensures.voiced;
+      lasts = lasting_moved c.advance-next.new.levels (vec_items (with_items s.levels c.advance-next.new.levels)) c.advance-next.result.depth f c.advance-next.ensures.lasts;
+    }
 
 pub returns : goal.returns
 returns g c =
     let s = c.args.self.now in
     let r = c.advance-next.result in
     let n = vec_len s.sets in
-    let n' = length c.deref-mut.result.now in
+    let n' = length c.deref_mut.result.now in
     let sets = vec_items (with_items s.sets c.advance-next.new.sets) in
     let trail = vec_items (with_items s.trail c.advance-next.new.trail) in
     let levels = vec_items (with_items s.levels c.advance-next.new.levels) in
@@ -76,10 +61,10 @@ returns g c =
     record {
       goes = ran_one g.B.Bank.meaning c.args.voices.now (rows_of c.args.rows.now) p q s.opened s.exhausted (g.S.Store.view c.args.store.now) (g.S.Store.view c.advance-next.new.store) r.exhausted
           (moved g.B.Bank.meaning n n' c.args.voices.now (rows_of c.args.rows.now)
-          (vec_items s.sets) c.deref-mut.result.now (vec_items s.trail) c.deref-mut-3.result.now (vec_items s.levels) c.deref-mut-4.result.now
+          (vec_items s.sets) c.deref_mut.result.now (vec_items s.trail) c.deref_mut-3.result.now (vec_items s.levels) c.deref_mut-4.result.now
           s.depth s.end (g.S.Store.view c.args.store.now) (g.S.Store.view c.advance-next.new.store)
           c.advance-next.new.sets sets c.advance-next.new.trail trail c.advance-next.new.levels levels r.depth r.end r.exhausted
-          en c.deref-mut.ensures.value c.deref-mut-3.ensures.value c.deref-mut-4.ensures.value
+          en c.deref_mut.ensures.value c.deref_mut-3.ensures.value c.deref_mut-4.ensures.value
           (with_items_is s.sets c.advance-next.new.sets es) (with_items_is s.trail c.advance-next.new.trail et) (with_items_is s.levels c.advance-next.new.levels el)
           c.requires.open c.advance-next.ensures.steps);
       voices = refl;

@@ -1,6 +1,6 @@
 use Rattle.std.proofs.Common.{vec_items, vec_len}
 use Rattle.engine.proofs.Searching.{says_going}
-use Rattle.engine.proofs.search.Search.outcome.Goals as goal
+use Rattle.engine.proofs.state.Search.outcome.Goals as goal
 
 pub returns-then-self-gt0 : goal.returns-then-self-gt0
 returns-then-self-gt0 c =

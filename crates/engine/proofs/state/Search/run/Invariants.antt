@@ -2,7 +2,7 @@ use Rattle.std.proofs.Common.{◌≡◌, ◌+◌, ◌-◌, ◌≤◌}
 use Rattle.rows.specs.Views.{rows_of}
 use Rattle.search.specs.Limits.{most_opened}
 use Rattle.engine.specs.Searches.{voice_count, table_of, Ran}
-use Rattle.engine.proofs.search.Search.run.Given as goal
+use Rattle.engine.proofs.state.Search.run.Given as goal
 
 abbrev pub invariant-loop-left : goal.invariant-loop-left
 invariant-loop-left g l = (l.left ≤ l.budget) × (l.self.opened + l.left ≤ most_opened) × (voice_count l.self ≡ voice_count l.initial.self)

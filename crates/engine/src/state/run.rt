@@ -6,7 +6,7 @@ ghost use Rattle.search.specs.Calls.{over};
 ghost use Rattle.engine.specs.Searches.{voice_count, place, table_of, Ran, Runs};
 
 use crate::advance::advance;
-use crate::search::Search;
+use crate::state::Search;
 use rows::bank::Bank;
 use rows::row::Row;
 use sets::ValueSet;
