@@ -1,7 +1,9 @@
 -- What a table's fields say, and what the code's results say as answers.
 use Rattle.std.specs.Prelude.{◌≡◌, ℕ, List, [], take, Ok, Err, vec_items, Result}
+use Rattle.rows.specs.declared.bank.Bank as bank
 use Rattle.rows.specs.Rows.{RowData, Meaning}
 use Rattle.rows.specs.Views.{rows_of}
+use Rattle.stores.specs.declared.store.Store as store
 use Rattle.stores.specs.Stores.{View}
 use Rattle.search.specs.Calls as calls
 use Rattle.search.specs.Calls.{Call, Answer, result}
@@ -14,35 +16,35 @@ use Rattle.planner.specs.declared.table.Table.{Table}
 use Rattle.planner.specs.Refusals.{refusal_number}
 use Rattle.planner.specs.Lasting.{Done, Lasts}
 
-module _ {B S : Type 0} where
+module _ {B S : Type 0} {b : bank.Ghosts B} {s : store.Ghosts S} where
   -- the table's rows
-  abbrev pub rows_in : Table B S → List RowData
+  abbrev pub rows_in : Table B S b s → List RowData
   rows_in t = rows_of (take t.posted (vec_items t.rows))
 
   -- the table as the definitions have it, where so many keys were lost: the code keeps no count of them
-  abbrev pub model : Table B S → ℕ → calls.Table
+  abbrev pub model : Table B S b s → ℕ → calls.Table
   model t lost = table_of (vec_items t.voices) (rows_in t) t.search lost
 
   -- its store, where `view` says what a store holds
-  abbrev pub store_in : (S → View) → Table B S → View
+  abbrev pub store_in : (S → View) → Table B S b s → View
   store_in view t = view t.store
 
   -- the values that it has found
-  abbrev pub found_in : Table B S → List ℕ
+  abbrev pub found_in : Table B S b s → List ℕ
   found_in t = result (place t.search)
 
   -- ---- a call takes the table t with its store to the table u with its store
 
   -- by what the call is to do
-  abbrev pub CallDone : Meaning → (S → View) → Table B S → Call → Answer → Table B S → Type 0
+  abbrev pub CallDone : Meaning → (S → View) → Table B S b s → Call → Answer → Table B S b s → Type 0
   CallDone m view t c a u = Done m (model t) (store_in view t) c a (model u) (store_in view u)
 
   -- and by what lasts over whole histories of calls
-  abbrev pub CallLasts : Meaning → (S → View) → Table B S → Call → Answer → Table B S → Type 0
+  abbrev pub CallLasts : Meaning → (S → View) → Table B S b s → Call → Answer → Table B S b s → Type 0
   CallLasts m view t c a u = Lasts m (model t) (store_in view t) c a (model u) (store_in view u)
 
   -- what Make gives: a table with which a history begins
-  abbrev pub Begins : Meaning → (S → View) → Table B S → Type 0
+  abbrev pub Begins : Meaning → (S → View) → Table B S b s → Type 0
   Begins m view t = History m [] (model t 0) (store_in view t)
 
 -- ---- answers

@@ -16,8 +16,8 @@ returns-then-set-eq0 g c =
     let d = declines_by m (model t) v (declare c.args.set) 10 (λ j. empty_set m (model t j) c.args.set c.if-set-eq0.true) in
     record { does = d; lasts = lasts_by m g.met.B.Bank.lawful (model t) v (declare c.args.set) (Answer.refused 10) (model t) v fits d }
 
-pub returns-then-len-ge-MOST-VOICES : goal.returns-then-len-ge-MOST-VOICES
-returns-then-len-ge-MOST-VOICES g c =
+pub returns-then-len-ge-MOST_VOICES : goal.returns-then-len-ge-MOST_VOICES
+returns-then-len-ge-MOST_VOICES g c =
     let m = g.B.Bank.meaning in
     let t = c.args.self.now in
     let v = store_in g.S.Store.view t in
@@ -30,12 +30,12 @@ pub returns : goal.returns
 returns g c =
     let m = g.B.Bank.meaning in
     let t = c.args.self.now in
-    let s = c.add-voice.new.self in
+    let s = c.add_voice.new.self in
     let v = store_in g.S.Store.view t in
     let w = g.S.Store.view c.clear.new.self in
-    let voices = vec_items c.push-reserved.new.self in
+    let voices = vec_items c.push_reserved.new.self in
     let fits : c.args.set < 2 ^ 64 = search rules in
     let room : length (vec_items t.voices) < 80 = omega (arith, t.voices.ok.0) in
-    let d = declares_by m (vec_items t.voices) voices (rows_in t) t.search s v w c.args.set (voice_count t.search + 1) c.push-reserved.ensures.items c.add-voice.ensures
+    let d = declares_by m (vec_items t.voices) voices (rows_in t) t.search s v w c.args.set (voice_count t.search + 1) c.push_reserved.ensures.items c.add_voice.ensures
     (λ j. voice_fits m (model t j) c.args.set c.if-set-eq0.false room) c.clear.ensures in
     record { does = d; lasts = lasts_by m g.met.B.Bank.lawful (model t) v (declare c.args.set) Answer.done (table_of voices (rows_in t) s) w fits d }

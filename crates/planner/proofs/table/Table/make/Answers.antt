@@ -4,5 +4,5 @@ use Rattle.planner.proofs.table.Table.make.Goals as goal
 
 pub returns : goal.returns
 returns g c =
-    made_by g.B.Bank.meaning (vec_items c.in-ok-voices.voices) c.in-ok-search.search (g.S.Store.view c.clear.new.self) 0
-    c.in-ok-voices.ensures.items c.in-ok-search.ensures c.clear.ensures
+    made_by g.B.Bank.meaning (vec_items c.in_ok-voices.voices) c.in_ok-search.search (g.S.Store.view c.clear.new.self) 0
+    c.in_ok-voices.ensures.items c.in_ok-search.ensures c.clear.ensures

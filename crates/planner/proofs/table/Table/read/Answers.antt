@@ -16,7 +16,7 @@ returns-in-Stopped g c =
     let t = c.args.self.now in
     let v = store_in g.S.Store.view t in
     let b = c.args.out.now in
-    let f : Bytes b = λ i l. (c.type-inv.out i).fits in
+    let f : Bytes b = λ i l. (c.type_inv.out i).fits in
     let d = declines_by m (model t) v (read b) 15 (λ j. nothing_found m (model t j) b (not_found c.outcome.result (place t.search) c.in-Stopped.is c.outcome.ensures)) in
     record { does = d; lasts = lasts_by m g.met.B.Bank.lawful (model t) v (read b) (Answer.refused 15) (model t) v f d; buffer = refl }
 
@@ -27,7 +27,7 @@ returns-then-out-sets g c =
     let s = t.search in
     let v = store_in g.S.Store.view t in
     let b = c.args.out.now in
-    let f : Bytes b = λ i l. (c.type-inv.out i).fits in
+    let f : Bytes b = λ i l. (c.type_inv.out i).fits in
     let e : place s ≡ Place.found (values c.sets-sets.result.now) =
     found_place s.end (vec_items s.sets) (levels_of s) c.in-Found.ensures ∙ ap (λ (x : List ℕ). Place.found (values x)) (sym c.sets-sets.ensures) in
     let d = declines_by m (model t) v (read b) 16 (λ j. short_buffer m (model t j) c.sets-sets.result.now b e c.if-out-sets.true) in
@@ -43,10 +43,10 @@ returns g c =
     let f : Bytes b = λ i l. let k : get_or b i 0 < 256 = search rules in k in
     let e : place s ≡ Place.found (values c.sets-sets.result.now) =
     found_place s.end (vec_items s.sets) (levels_of s) c.in-Found.ensures ∙ ap (λ (x : List ℕ). Place.found (values x)) (sym c.sets-sets.ensures) in
-    let d = reads_by m (vec_items t.voices) (rows_in t) s v c.sets-sets.result.now b c.write-values.new.out e c.write-values.ensures
+    let d = reads_by m (vec_items t.voices) (rows_in t) s v c.sets-sets.result.now b c.write_values.new.out e c.write_values.ensures
     (λ j. buffer_fits m (model t j) c.sets-sets.result.now b e c.if-out-sets.false) in
     record {
       does = d;
-      lasts = lasts_by m g.met.B.Bank.lawful (model t) v (read b) (Answer.wrote (length c.sets-sets.result.now) c.write-values.new.out) (model t) v f d;
+      lasts = lasts_by m g.met.B.Bank.lawful (model t) v (read b) (Answer.wrote (length c.sets-sets.result.now) c.write_values.new.out) (model t) v f d;
       buffer = tt;
     }
