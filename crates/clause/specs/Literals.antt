@@ -1,5 +1,5 @@
 -- The kind C, hex 43: some literal is true.
-use Rattle.std.specs.Prelude.{ℕ, ◌-◌, Bool, true, false, cond, not, ◌&&◌, List, [], ◌∷◌, take, ◌==◌, nat_lt, unsigned_abs}
+use Rattle.std.specs.Prelude.{ℕ, ◌-◌, Bool, false, cond, not, ◌&&◌, List, [], ◌∷◌, take, ◌==◌, nat_lt, unsigned_abs}
 use Rattle.std.specs.Int.Signed.{non_neg}
 use Rattle.sets.specs.Sets.{sift}
 use Rattle.sets.specs.Placings.{any, all}

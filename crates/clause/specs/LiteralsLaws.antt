@@ -5,7 +5,7 @@ use Rattle.std.proofs.lemmas.Bool.{eqb-true, ne_eqb, cases_Bool, both_ways, and_
 use Rattle.rows.specs.Laws.{Laws}
 use Rattle.rows.specs.Rows.{alone, RowData}
 use Rattle.rows.specs.declared.member.Member.{Member}
-use Rattle.sets.specs.Placings.{all, any, some_empty, all_fixed, Proper, Within, Narrower, values}
+use Rattle.sets.specs.Placings.{any, some_empty, all_fixed, Proper, Within, Narrower, values}
 use Rattle.sets.specs.Sets.{has, fixed, least, sift}
 use Rattle.clause.specs.Literals.{says, refuted, certain, chosen, units, clause, clause_rule}
 use Rattle.narrowing.specs.Shared.{at, shaped, declared, settled, open_with}

@@ -12,7 +12,6 @@ use Rattle.element.specs.Entries.{index, result_voice, entry, reached, indexed, 
 use Rattle.narrowing.specs.Shared.{cut}
 use Rattle.sets.proofs.Membership.{has_suc}
 use Rattle.sets.proofs.Masks.{mask_is, has_or, only_mask, none_mask}
-use Rattle.element.specs.EntriesLaws.{entry_past}
 use Rattle.narrowing.proofs.Masked.{members_of, masked_below}
 use Rattle.narrowing.proofs.Narrowing.{cut_same, changed_then}
 use Rattle.narrowing.proofs.Cuts.{Small, cut_small, cut_narrower}

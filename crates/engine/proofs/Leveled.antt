@@ -1,17 +1,17 @@
 -- Levels as they are held: what a write leaves, and what opening a node comes to.
-use Rattle.std.proofs.Common.{◌≡◌, ℕ, zero, suc, ◌+◌, ◌-◌, ◌*◌, ◌<◌, ◌≤◌, ◌≢◌, ◌⊎◌, List, [], ◌∷◌, length, get_or, take, drop, set, sym, refl, ap, ◌∙◌, subst, ap₂, inl, inr, ⊎_elim, suc-mul, arith}
+use Rattle.std.proofs.Common.{◌≡◌, ℕ, zero, suc, ◌+◌, ◌-◌, ◌*◌, ◌<◌, ◌≤◌, ◌≢◌, List, [], ◌∷◌, length, get_or, take, drop, set, sym, refl, ap, ◌∙◌, subst, ap₂, ⊎_elim, suc-mul, arith}
 use Rattle.std.proofs.lemmas.Nat.{mul-le}
 use Rattle.std.proofs.lemmas.List.{take-take, drop-take, get_or-set_same, get_or-set_other}
 use Rattle.std.proofs.lemmas.Bool.{cases_lt}
 use Rattle.rows.specs.Rows.{RowData, Meaning}
 use Rattle.sets.specs.Placings.{values}
 use Rattle.stores.specs.Stores.{View}
-use Rattle.search.specs.Search.{Level, Place, Node, BacksUp, Opens, node, below}
+use Rattle.search.specs.Search.{Level, Node, Opens, node, below}
 use Rattle.search.specs.Propagation.{propagated}
 use Rattle.search.specs.Search.Node.{dead, solution, hit, branch}
 use Rattle.engine.specs.declared.level.LevelRecord.{LevelRecord}
 use Rattle.engine.specs.declared.level.End.{End}
-use Rattle.engine.specs.declared.level.End.TheVariants.{Fresh, Found, Exhausted}
+use Rattle.engine.specs.declared.level.End.TheVariants.{Found, Exhausted}
 use Rattle.engine.specs.Levels.{no_record, level_at, levels_at, stop, Backed, Lasting, Voiced, below_at}
 use Rattle.engine.specs.Places.{place_of, Opened}
 

@@ -1,12 +1,12 @@
 -- What a node is, by the tests in the code's order.
-use Rattle.std.proofs.Common.{◌≡◌, ℕ, zero, suc, ◌+◌, ◌-◌, ◌<◌, ◌≤◌, Bool, true, false, cond, ◌&&◌, ◌||◌, eqb, ◌⊎◌, List, [], ◌∷◌, length, get_or, drop, sym, refl, ap, ◌∙◌, inl, inr, ⊎_elim, arith, length-drop}
+use Rattle.std.proofs.Common.{◌≡◌, ℕ, zero, suc, ◌+◌, ◌<◌, ◌≤◌, Bool, true, false, ◌&&◌, eqb, List, [], ◌∷◌, length, get_or, drop, sym, refl, ap, ◌∙◌, arith, length-drop}
 use Rattle.std.proofs.lemmas.Bool.{or_parts, eqb-false}
 use Rattle.sets.specs.Sets.{fixed}
 use Rattle.sets.specs.Placings.{some_empty, all_fixed, values}
 use Rattle.rows.specs.Rows.{RowData, Meaning}
 use Rattle.stores.specs.Keys.{key}
 use Rattle.stores.specs.Stores.{View, member}
-use Rattle.search.specs.Search.{Node, Level, node, first_open, level_of}
+use Rattle.search.specs.Search.{Node, node, first_open, level_of}
 use Rattle.search.specs.Search.Node.{dead, solution, hit, branch}
 
 -- the place of the first set that is not fixed, and whether there is one

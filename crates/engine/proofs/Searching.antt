@@ -1,8 +1,6 @@
 -- From slices to the fields of a search, and runs of nodes one after the other.
 use Rattle.std.proofs.Common.{◌≡◌, ℕ, zero, suc, ◌+◌, ◌<◌, ◌≤◌, true, false, ◌⊎◌, List, [], ◌∷◌, sym, refl, ap, ◌∙◌, subst, arith}
 use Rattle.rows.specs.Rows.{RowData, Meaning}
-use Rattle.rows.specs.declared.row.Row.{Row}
-use Rattle.rows.specs.Views.{rows_of}
 use Rattle.stores.specs.Stores.{View}
 use Rattle.search.specs.Search.{Level, Place}
 use Rattle.search.specs.Calls.{Table, over, Goes}

@@ -1,14 +1,12 @@
 -- One node, from the root or from the newest level.
-use Rattle.std.proofs.Common.{◌≡◌, ℕ, zero, suc, ◌+◌, ◌-◌, ◌*◌, ◌<◌, ◌≤◌, ◌≢◌, ◌⊎◌, List, [], ◌∷◌, length, get_or, take, drop, set, sym, refl, ap, ◌∙◌, subst, ap₂, inl, inr, ⊎_elim, arith}
+use Rattle.std.proofs.Common.{◌≡◌, ℕ, suc, ◌-◌, ◌<◌, ◌≤◌, ◌≢◌, List, [], ◌∷◌, length, get_or, set, sym, refl, ap, ◌∙◌, subst, ap₂, arith}
 use Rattle.std.proofs.lemmas.List.{get_or-set_same, get_or-set_other}
-use Rattle.std.proofs.lemmas.Bool.{cases_lt, cases_eq}
 use Rattle.rows.specs.Rows.{RowData, Meaning}
 use Rattle.stores.specs.Stores.{View}
 use Rattle.search.specs.Search.{Level, Place, Steps, child, taken}
 use Rattle.engine.specs.declared.level.LevelRecord.{LevelRecord}
-use Rattle.engine.specs.declared.level.End.{End}
-use Rattle.engine.specs.declared.level.End.TheVariants.{Fresh, Found, Exhausted}
-use Rattle.engine.specs.Levels.{no_record, level_at, levels_at, Lasting, Voiced, record_taken}
+use Rattle.engine.specs.declared.level.End.TheVariants.{Fresh}
+use Rattle.engine.specs.Levels.{no_record, level_at, levels_at, record_taken}
 use Rattle.engine.specs.Places.{place_of, Opened, Advanced}
 use Rattle.engine.proofs.Leveled.{level, levels_same}
 

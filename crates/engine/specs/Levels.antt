@@ -1,5 +1,5 @@
 -- Levels as memory holds them: their records, the oldest first, and the sets of all of them, n to a level, in one list (the trail).
-use Rattle.std.specs.Prelude.{◌≡◌, ℕ, zero, suc, ◌-◌, ◌*◌, ◌<◌, ◌≤◌, List, [], ◌∷◌, length, take, drop, slice_index_or}
+use Rattle.std.specs.Prelude.{ℕ, zero, suc, ◌-◌, ◌*◌, ◌<◌, ◌≤◌, List, [], ◌∷◌, take, drop, slice_index_or}
 use Rattle.sets.specs.Sets.{least, only}
 use Rattle.rows.specs.Rows.{RowData, Meaning}
 use Rattle.stores.specs.Stores.{View}

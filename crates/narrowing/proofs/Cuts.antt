@@ -3,7 +3,7 @@ use Rattle.std.proofs.Common.{◌≡◌, ℕ, zero, suc, ◌^◌, ◌<◌, ◌�
 use Rattle.std.proofs.lemmas.List.{get_or-set_same, get_or-set_other, set-append_left, ext_get_or, get_or_past, get_or_append_left, set_past}
 use Rattle.std.proofs.lemmas.Bool.{cases_eq, cases_lt, both_ways, and_parts, and_from, or_parts, or_cases}
 use Rattle.rows.specs.declared.member.Member.{Member}
-use Rattle.sets.specs.Placings.{all, any, some_empty, all_fixed, Proper, Within, Narrower, values}
+use Rattle.sets.specs.Placings.{all, any, some_empty, all_fixed, Proper, Within, Narrower}
 use Rattle.sets.specs.Sets.{has, fixed, sift}
 use Rattle.narrowing.specs.Shared.{cut, cuts, at}
 use Rattle.sets.proofs.Membership.{sift_below, has_sift, sift_part, has_below, fixed_part, parts_same}

@@ -1,16 +1,15 @@
 -- What the kinds' proofs share: an accepted row, a member's value and set, a turn where all is fixed.
 use Rattle.std.proofs.Common.{◌≡◌, ℕ, ◌+◌, ◌<◌, ◌≤◌, Bool, true, false, cond, ◌&&◌, eqb, ltb, leb, ◌⊎◌, List, ◌++◌, length, get_or, Ok, sym, refl, ap, ◌∙◌, subst, inl, inr, arith}
-use lib.ListN.{length-map}
-use Rattle.std.proofs.lemmas.List.{get_or_append_left, get_or-map}
+use Rattle.std.proofs.lemmas.List.{get_or_append_left}
 use Rattle.std.proofs.lemmas.Bool.{eqb-true, leb-true, cases_Bool, both_ways, ltb-true, lt-ltb}
 use Rattle.rows.specs.Laws.{barred, Lettered, Shaped, Alike, Agree}
 use Rattle.rows.specs.Rows.{KindMeaning, alone, RowData, count}
 use Rattle.rows.specs.declared.member.Member.{Member}
 use Rattle.rows.specs.declared.trace.Trace.{Trace}
-use Rattle.sets.specs.Placings.{all, some_empty, all_fixed, Proper, Within, Narrower, values}
-use Rattle.sets.specs.Sets.{has, fixed, least}
+use Rattle.sets.specs.Placings.{some_empty, all_fixed, Proper, Within, Narrower}
+use Rattle.sets.specs.Sets.{fixed, least}
 use Rattle.narrowing.specs.Shared.{at, shaped, verdict, declared, settled, open_with}
-use Rattle.sets.proofs.Membership.{fixed_member, has_least, has_below}
+use Rattle.sets.proofs.Membership.{fixed_member, has_below}
 use Rattle.narrowing.proofs.Cuts.{Each, all_each, each_all, each_map, Declared, Small, proper_small, nothing_lost}
 
 -- ---- an Ok tt row

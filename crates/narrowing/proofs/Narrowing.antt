@@ -1,15 +1,15 @@
 -- Whether sets changed, over one cut and over a run of cuts; a cut by a mask.
-use Rattle.std.proofs.Common.{◌≡◌, ℕ, zero, suc, ◌+◌, ◌^◌, ◌<◌, ◌≤◌, Bool, true, false, not, ◌&&◌, ◌||◌, eqb, ◌⊎◌, List, [], ◌∷◌, ◌++◌, length, get_or, take, set, sym, refl, ap, ◌∙◌, subst, ap₂, inl, inr, arith}
+use Rattle.std.proofs.Common.{◌≡◌, ℕ, zero, suc, ◌+◌, ◌^◌, ◌<◌, Bool, true, false, not, ◌&&◌, ◌||◌, eqb, List, [], ◌∷◌, ◌++◌, length, get_or, take, set, sym, refl, ap, ◌∙◌, inl, inr, arith}
 use lib.Bits.{bit_and}
 use Rattle.std.proofs.lemmas.List.{take_more, set-get_or}
-use Rattle.std.proofs.lemmas.Bool.{cases_Bool, both_ways, and_parts, and_from, and_left, and_right, eqb-true, eq-eqb, ne_eqb, eqb-false}
+use Rattle.std.proofs.lemmas.Bool.{cases_Bool, both_ways, eq-eqb}
 use Rattle.rows.specs.declared.member.Member.{Member}
 use Rattle.sets.specs.Placings.{same, changed, Narrower}
 use Rattle.sets.specs.Sets.{has, sift}
 use Rattle.narrowing.specs.Shared.{cut, cuts}
 use Rattle.sets.proofs.Membership.{has_sift, sift_below, same_sets, sift_all}
 use Rattle.sets.proofs.Masks.{and_sift}
-use Rattle.narrowing.proofs.Cuts.{Small, squeezed, cuts_small, cuts_narrower, cut_small, cut_narrower}
+use Rattle.narrowing.proofs.Cuts.{Small, squeezed, cuts_small, cuts_narrower, cut_narrower}
 use Rattle.sets.proofs.Lists.{same_self, same_is}
 
 -- ---- the same list, and another

@@ -1,5 +1,5 @@
 -- What the kinds share: cuts of sets, an accepted row's parts, traces.
-use Rattle.std.specs.Prelude.{ℕ, Bool, true, false, cond, not, ◌&&◌, List, [], ◌∷◌, map, length, set, Ok, Err, ◌==◌, nat_eq, nat_le, nat_lt, slice_index, slice_set}
+use Rattle.std.specs.Prelude.{ℕ, Bool, true, cond, not, ◌&&◌, List, [], ◌∷◌, length, Ok, Err, ◌==◌, nat_eq, nat_le, nat_lt, slice_index, slice_set}
 use Rattle.sets.specs.Sets.{sift}
 use Rattle.sets.specs.Placings.{all, any}
 use Rattle.rows.specs.declared.fault.Fault.TheVariants.{Undeclared, RuleBroken}

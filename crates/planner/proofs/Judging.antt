@@ -1,5 +1,5 @@
 -- The refusals of the calls, in the order of their numbers.
-use Rattle.std.proofs.Common.{◌≡◌, ℕ, ◌+◌, ◌<◌, ◌≤◌, Bool, true, false, not, ◌&&◌, ◌||◌, eqb, ltb, leb, ◌⊎◌, List, [], ◌∷◌, length, sym, refl, ap, ◌∙◌, inl, inr}
+use Rattle.std.proofs.Common.{◌≡◌, ℕ, ◌+◌, ◌<◌, ◌≤◌, Bool, true, false, not, ◌&&◌, ◌||◌, eqb, ltb, leb, ◌⊎◌, List, [], ◌∷◌, length, ap, ◌∙◌, inl, inr}
 use Rattle.std.proofs.lemmas.List.{length-map}
 use Rattle.std.proofs.lemmas.Bool.{or_left, or_right, or_from, and_left, and_right, and_from, not_from_true, not_from_false, eq-eqb, ne_eqb, lt-ltb, le-ltb, le-leb, lt-leb}
 use Rattle.sets.specs.Sets.{least}
@@ -7,7 +7,7 @@ use Rattle.sets.specs.Placings.{values}
 use Rattle.rows.specs.Rows.{Meaning}
 use Rattle.search.specs.Limits.{most_voices, most_budget, most_opened}
 use Rattle.search.specs.Search.{Place}
-use Rattle.search.specs.Calls.{Table, Call, Judgement, judge, judged, over, is_found, result}
+use Rattle.search.specs.Calls.{Table, judge, judged, over, is_found, result}
 use Rattle.search.specs.Calls.Call.{declare, solve, read}
 use Rattle.search.specs.Calls.Judgement.{passes, declined}
 

@@ -1,5 +1,5 @@
 -- One row more: the refusals of Post, and the rows and their bytes afterwards.
-use Rattle.std.proofs.Common.{◌≡◌, ℕ, ◌+◌, ◌-◌, ◌<◌, ◌≤◌, Bool, true, false, cond, not, ◌||◌, eqb, ltb, leb, List, [], ◌∷◌, ◌++◌, length, take, drop, set, is_ok, Ok, Err, Result, sym, refl, ap, ◌∙◌, ap₂, arith}
+use Rattle.std.proofs.Common.{◌≡◌, ℕ, ◌+◌, ◌-◌, ◌<◌, ◌≤◌, Bool, true, false, cond, not, ◌||◌, ltb, leb, List, [], ◌∷◌, ◌++◌, length, take, drop, set, is_ok, Ok, Err, Result, sym, refl, ap, ◌∙◌, ap₂, arith}
 use Rattle.std.proofs.lemmas.List.{take-set, take_more_set, map_push}
 use Rattle.std.proofs.lemmas.Bool.{le-leb, lt-leb, le-ltb, lt-ltb, leb-true, leb-false, ltb-false, or_left, or_parts, not_from_true}
 use Rattle.rows.specs.declared.row.Row.{Row}
@@ -10,11 +10,11 @@ use Rattle.rows.specs.Numbers.{row_number_of}
 use Rattle.rows.specs.Rows.{RowData, Meaning, Verdict}
 use Rattle.rows.specs.Views.{row_of, rows_of}
 use Rattle.rows.specs.Bytes.{Bytes, head_length, lettered, counted, long_enough, marked, Layout, decode, encode, total_bytes}
-use Rattle.rows.specs.Reading.{checked, of_kind, layout, row_verdict, row_after}
+use Rattle.rows.specs.Reading.{checked, of_kind, row_verdict, row_after}
 use Rattle.rows.proofs.Layouts.{bytes_both_ways}
 use Rattle.rows.proofs.Readings.{layout_right}
 use Rattle.search.specs.Limits.{most_rows, most_bytes}
-use Rattle.search.specs.Calls.{Table, Call, Judgement, judge, judged, declined_under}
+use Rattle.search.specs.Calls.{Table, judge, judged, declined_under}
 use Rattle.search.specs.Calls.Call.{post}
 use Rattle.search.specs.Calls.Judgement.{passes, declined}
 

@@ -1,7 +1,6 @@
 -- Two lawful banks side by side are a lawful bank.
 use Rattle.std.specs.Prelude.{◌≡◌, ℕ, Bool, true, false, cond, ◌||◌, refl}
-use Rattle.std.proofs.Common.{sym, ap, ◌∙◌}
-use Rattle.std.proofs.lemmas.Bool.{or_left, or_right, both_ways}
+use Rattle.std.proofs.lemmas.Bool.{or_left, or_right}
 use Rattle.rows.specs.Rows.{RowData, Meaning, with_letter, beside}
 use Rattle.rows.specs.Laws.{Laws, Lettered, Shaped, Accepted}
 

@@ -1,11 +1,11 @@
 -- Lists of sets, and the placings within them.
 use Rattle.std.proofs.Common.{◌≡◌, ℕ, zero, suc, ◌<◌, ◌≤◌, true, false, eqb, List, [], ◌∷◌, length, get_or, sym, refl, ◌∙◌, subst, ap₂, inl, inr, le_antisymm, arith}
-use Rattle.std.proofs.lemmas.Bool.{eqb-true, eqb-false, eq-eqb, both_ways, ne_eqb, or_cases, or_from, or_parts, and_parts, and_from}
-use Rattle.std.proofs.lemmas.List.{ext_get_or, get_or-map, length-map}
-use Rattle.sets.specs.Sets.{has, fixed, least}
+use Rattle.std.proofs.lemmas.Bool.{eqb-true, eqb-false, both_ways, ne_eqb, or_cases, or_from, or_parts, and_parts}
+use Rattle.std.proofs.lemmas.List.{ext_get_or}
+use Rattle.sets.specs.Sets.{has, fixed}
 use Rattle.sets.specs.Laws.{Word}
-use Rattle.sets.specs.Placings.{same, some_empty, all_fixed, values, Proper, Within, Narrower}
-use Rattle.sets.proofs.Membership.{has_least, part_below, ones_part}
+use Rattle.sets.specs.Placings.{some_empty, all_fixed, values, Proper, Within, Narrower}
+use Rattle.sets.proofs.Membership.{part_below, ones_part}
 use Rattle.search.specs.Propagation.{size}
 use Rattle.search.proofs.SetParts.{empty_has, fixed_one}
 use Rattle.sets.proofs.Lists.{values_within}

@@ -1,5 +1,5 @@
 -- The search, one node at a time: depth first, with a store of the keys of nodes that have failed.
-use Rattle.std.specs.Prelude.{◌≡◌, ℕ, suc, ◌-◌, ◌<◌, true, false, List, [], ◌∷◌, length, drop, set, ◌==◌, slice_index, slice_set}
+use Rattle.std.specs.Prelude.{◌≡◌, ℕ, suc, ◌-◌, ◌<◌, true, false, List, [], ◌∷◌, length, drop, ◌==◌, slice_index, slice_set}
 use Rattle.sets.specs.Sets.{fixed, least, only}
 use Rattle.sets.specs.Placings.{some_empty, all_fixed, values}
 use Rattle.rows.specs.Rows.{RowData, Meaning}

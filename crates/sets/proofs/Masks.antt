@@ -1,10 +1,10 @@
 -- Masks of 64 bits: what `!`, `&`, `|` and a shift make of the members, and the number that a test's set is.
-use Rattle.std.proofs.Common.{◌≡◌, ℕ, zero, suc, ◌+◌, ◌-◌, ◌*◌, ◌/◌, ◌%◌, ◌^◌, ◌<◌, ◌≤◌, Bool, true, false, not, ◌&&◌, ◌||◌, eqb, ltb, leb, ◌⊎◌, sym, refl, ap, ◌∙◌, subst, ap₂, inl, inr, le_of_suc-le-suc, lt_of_le_of_lt, pow-suc, arith, lit<}
+use Rattle.std.proofs.Common.{◌≡◌, ℕ, zero, suc, ◌-◌, ◌/◌, ◌%◌, ◌^◌, ◌<◌, Bool, true, false, not, ◌&&◌, ◌||◌, eqb, ltb, leb, ◌⊎◌, sym, refl, ap, ◌∙◌, inl, inr, le_of_suc-le-suc, lt_of_le_of_lt, pow-suc, arith, lit<}
 use lib.Bits.{bit_and, bit_or, and_mask, and_le_l, or_shr, or_mod}
-use Rattle.std.proofs.lemmas.Nat.{one_shl, shl_whole, pow_pos, pow_below}
-use Rattle.std.proofs.lemmas.Bool.{eq-eqb, ne_eqb, le-leb, lt-leb, cases_lt, leb-true, eqb-true, both_ways}
+use Rattle.std.proofs.lemmas.Nat.{pow_pos, pow_below}
+use Rattle.std.proofs.lemmas.Bool.{le-leb, lt-leb, cases_lt}
 use Rattle.sets.specs.Sets.{has, only, mask, sift}
-use Rattle.sets.proofs.Membership.{has_suc, has_zero, has_above, has_below, same_sets, has_mask, mask_below, has_sift, sift_below, has_only, only_below, has_all, has_and, has_none}
+use Rattle.sets.proofs.Membership.{has_suc, has_zero, has_above, same_sets, has_mask, mask_below, has_sift, sift_below, has_only, only_below, has_all, has_and, has_none}
 
 -- a word whose members are those that pass is the set of what passes
 pub mask_is : (s : ℕ) (f : ℕ → Bool) → s < 2 ^ 64 → ((v : ℕ) → v < 64 → has s v ≡ f v) → s ≡ mask 64 f

@@ -1,10 +1,10 @@
 -- Keys behind their headers: reading back what was written, one key at a time, and one key more.
-use Rattle.std.proofs.Common.{◌≡◌, ℕ, zero, suc, ◌+◌, ◌-◌, ◌*◌, ◌/◌, ◌%◌, ◌^◌, ◌<◌, ◌≤◌, min, Bool, true, false, cond, ◌&&◌, ◌||◌, eqb, ltb, leb, ◌⊎◌, List, [], ◌∷◌, ◌++◌, length, get_or, take, drop, sym, refl, ap, ◌∙◌, subst, ap₂, inl, inr, le_refl, arith}
+use Rattle.std.proofs.Common.{◌≡◌, ℕ, zero, suc, ◌+◌, ◌-◌, ◌*◌, ◌/◌, ◌%◌, ◌^◌, ◌<◌, ◌≤◌, Bool, true, false, cond, ◌&&◌, ◌||◌, eqb, ltb, leb, ◌⊎◌, List, [], ◌∷◌, ◌++◌, length, get_or, take, drop, sym, refl, ap, ◌∙◌, subst, ap₂, inl, inr, le_refl, arith}
 use Rattle.std.proofs.lemmas.Nat.{mod-mul-add}
 use Rattle.std.proofs.lemmas.List.{drop_more, drop-drop, drop_all, take_at, drop_at, append_assoc, append-nil, append_cancel_left, take-append-drop, length-take, length-take-le, length-drop, length-append, at_drop_more, at_drop_all}
-use Rattle.std.proofs.lemmas.Bool.{both_ways, and_parts, and_from, eqb-true, eq-eqb, ne_eqb, cases_Bool, or_right, and_right, lt-ltb, lt-leb, le-leb}
-use Rattle.sets.specs.Placings.{same, any}
-use Rattle.stores.specs.Stores.{member, View, Joined, Keeps, fits}
+use Rattle.std.proofs.lemmas.Bool.{and_from, eq-eqb, ne_eqb, cases_Bool, or_right, and_right, lt-ltb, lt-leb, le-leb}
+use Rattle.sets.specs.Placings.{same}
+use Rattle.stores.specs.Stores.{member, Joined, Keeps, fits}
 use Rattle.stores.specs.Shelves.{hash_from, header, written, keys_in, shelved, Whole, shelf_view, shelf_keep, shelf_after}
 use Rattle.stores.specs.declared.store.Stored.{Stored}
 use Rattle.stores.specs.declared.store.Stored.TheVariants.{Kept, Lost}

@@ -1,4 +1,4 @@
-use Rattle.std.proofs.Common.{◌≡◌, ℕ, ◌^◌, ◌<◌, not, eqb, ap, ◌∙◌, rules}
+use Rattle.std.proofs.Common.{ℕ, ◌^◌, ◌<◌, not, eqb, ap, ◌∙◌, rules}
 use Rattle.sets.specs.Sets.{sift}
 use Rattle.clause.specs.Literals.{says}
 use Rattle.clause.proofs.LiteralSteps.{none_out}

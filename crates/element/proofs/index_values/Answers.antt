@@ -1,4 +1,4 @@
-use Rattle.std.proofs.Common.{◌≡◌, ℕ, Bool, sym, ap, ◌∙◌, lit<}
+use Rattle.std.proofs.Common.{◌≡◌, sym, ap, ◌∙◌, lit<}
 use Rattle.sets.specs.Sets.{has}
 use Rattle.sets.proofs.Masks.{only_mask}
 use Rattle.element.specs.Entries.{entry}

@@ -1,4 +1,4 @@
-use Rattle.std.proofs.Common.{◌≡◌, ℕ, ◌+◌, ◌/◌, ◌^◌, ◌<◌, Bool, ◌||◌, eqb, drop, sym, ap, ◌∙◌, subst}
+use Rattle.std.proofs.Common.{ℕ, ◌+◌, ◌/◌, ◌^◌, ◌<◌, ◌||◌, eqb, drop, sym, ap, ◌∙◌, subst}
 use Rattle.std.proofs.lemmas.Nat.{or_lt}
 use Rattle.sets.specs.Sets.{has, mask}
 use Rattle.element.specs.Entries.{reached}

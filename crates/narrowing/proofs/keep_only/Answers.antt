@@ -1,4 +1,4 @@
-use Rattle.std.proofs.Common.{◌≡◌, ◌^◌, ◌<◌, ◌≤◌, length, get_or, set, sym, ap, ◌∙◌, arith, rules}
+use Rattle.std.proofs.Common.{◌≡◌, ◌^◌, ◌<◌, ◌≤◌, length, get_or, set, sym, ap, ◌∙◌, rules}
 use lib.Bits.{bit_and}
 use Rattle.sets.specs.Sets.{has}
 use Rattle.narrowing.proofs.Cuts.{cut_past}

@@ -1,4 +1,4 @@
-use Rattle.std.proofs.Common.{◌≤◌, length, sym, arith, rules}
+use Rattle.std.proofs.Common.{◌≤◌, length, sym, rules}
 use Rattle.std.proofs.lemmas.List.{get_or_past}
 use Rattle.narrowing.proofs.set_of.Goals as goal
 

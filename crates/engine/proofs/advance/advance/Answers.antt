@@ -1,4 +1,4 @@
-use Rattle.std.proofs.Common.{◌≡◌, ℕ, ◌+◌, ◌-◌, ◌*◌, ◌<◌, ◌≤◌, length, sym, ap, ◌∙◌, subst, arith, rules}
+use Rattle.std.proofs.Common.{◌≡◌, ℕ, length, ap, subst, arith}
 use Rattle.rows.specs.Views.{rows_of}
 use Rattle.engine.specs.Levels.{levels_at, Voiced}
 use Rattle.engine.specs.Places.{Opened, place_of}

@@ -1,4 +1,4 @@
-use Rattle.std.proofs.Common.{◌-◌, ◌<◌, ◌≤◌, length, arith}
+use Rattle.std.proofs.Common.{◌-◌, length, arith}
 use Rattle.engine.proofs.Leveled.{room_for}
 use Rattle.engine.proofs.advance.take_child.Goals as goal
 

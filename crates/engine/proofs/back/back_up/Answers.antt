@@ -1,4 +1,4 @@
-use Rattle.std.proofs.Common.{◌≡◌, ◌+◌, ◌-◌, ◌*◌, ◌<◌, ◌≤◌, length, subst, arith, rules}
+use Rattle.std.proofs.Common.{◌-◌, length, arith}
 use Rattle.rows.specs.Views.{rows_of}
 use Rattle.engine.specs.Levels.{levels_at}
 use Rattle.engine.proofs.Backing.{behind_more, behind_root, behind_next, level_inside}

@@ -1,4 +1,4 @@
-use Rattle.std.proofs.Common.{◌≡◌, ◌-◌, ◌≤◌}
+use Rattle.std.proofs.Common.{◌-◌, ◌≤◌}
 use Rattle.rows.specs.Views.{rows_of}
 use Rattle.engine.specs.Levels.{levels_at}
 use Rattle.engine.proofs.Backing.{Behind}

@@ -1,4 +1,4 @@
-use Rattle.std.proofs.Common.{◌≡◌, ℕ, ◌≤◌, List, length, sym, ap, ◌∙◌, arith}
+use Rattle.std.proofs.Common.{ℕ, ◌≤◌, List, length, ap, ◌∙◌, arith}
 use Rattle.rows.specs.Views.{rows_of}
 use Rattle.stores.specs.Keys.{key}
 use Rattle.stores.specs.Stores.{member}

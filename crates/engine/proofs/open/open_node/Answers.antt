@@ -1,7 +1,7 @@
-use Rattle.std.proofs.Common.{◌≡◌, ◌+◌, ◌-◌, ◌*◌, ◌<◌, ◌≤◌, ◌∷◌, length, get_or, take, drop, set, sym, ap, ◌∙◌, subst, arith, rules}
+use Rattle.std.proofs.Common.{◌≡◌, ◌+◌, ◌-◌, ◌*◌, ◌<◌, length, get_or, take, drop, set, sym, ap, ◌∙◌, arith}
 use Rattle.rows.specs.Views.{rows_of}
-use Rattle.engine.specs.Levels.{no_record, levels_at}
-use Rattle.engine.specs.declared.level.End.TheVariants.{Fresh, Found, Exhausted}
+use Rattle.engine.specs.Levels.{levels_at}
+use Rattle.engine.specs.declared.level.End.TheVariants.{Exhausted}
 use Rattle.engine.proofs.Leveled.{below_is, room_above, room_for, levels_push, voiced_fewer, voiced_push, lasting_push, opened_dead, opened_hit, opened_solution, opened_branch}
 use Rattle.engine.proofs.open.open_node.Goals as goal
 

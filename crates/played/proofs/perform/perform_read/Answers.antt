@@ -13,8 +13,8 @@ returns-in-Ok g c =
     let t = c.args.table.now in
     let v = store_in g.S.Store.view t in
     let out = c.read.new.out in
-    let e : ◌≡◌ {A = List ℕ} c.deref-mut.result.now c.args.bytes.now = c.deref-mut.ensures.value ∙ c.in-ok-buffer.ensures.items-if-clones-equal (λ x y e. e) in
-    let f : ◌≡◌ {A = List ℕ} out (vec_items (with_items c.in-ok-buffer.buffer out)) = sym (with_items_is c.in-ok-buffer.buffer out (c.read.auto.out ∙ c.deref-mut.ensures.len)) in
+    let e : ◌≡◌ {A = List ℕ} c.deref_mut.result.now c.args.bytes.now = c.deref_mut.ensures.value ∙ c.in_ok-buffer.ensures.items_if_clones_equal (λ x y e. e) in
+    let f : ◌≡◌ {A = List ℕ} out (vec_items (with_items c.in_ok-buffer.buffer out)) = sym (with_items_is c.in_ok-buffer.buffer out (c.read.auto.out ∙ c.deref_mut.ensures.len)) in
     let a = λ (x : List ℕ). Answer.wrote c.in-Ok.count x in
     record {
       does = subst₂ (λ (x y : List ℕ). Done m (model t) v (read x) (a y) (model t) v) e f c.in-Ok.ensures.does;

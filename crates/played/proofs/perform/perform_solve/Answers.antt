@@ -15,9 +15,9 @@ unwrap-count-requires g c =
     let v = store_in g.S.Store.view before in
     let w = store_in g.S.Store.view t in
     let s = t.search in
-    let b = c.deref-mut.result.now in
+    let b = c.deref_mut.result.now in
     let e = place_found {m = m} {t = model before} {v = v} {w = w} {b = c.args.budget} (vec_items t.voices) (rows_in t) s c.in-Ok.outcome c.in-Found.is c.in-Ok.ensures.does in
-    let h : length (vec_items s.sets) ≤ length b = omega (arith, t.few, t.searched, s.sets.ok, c.deref-mut.ensures.len, c.in-ok-values.ensures.len) in
+    let h : length (vec_items s.sets) ≤ length b = omega (arith, t.few, t.searched, s.sets.ok, c.deref_mut.ensures.len, c.in_ok-values.ensures.len) in
     wrote_ok c.read.result c.read.new.out _ _ (read_wrote {m = m} {v = w} (vec_items t.voices) (rows_in t) s b c.read.new.out c.read.result e h c.read.ensures.does)
 
 pub returns-in-Found : goal.returns-in-Found
@@ -28,14 +28,14 @@ returns-in-Found g c =
     let v = store_in g.S.Store.view before in
     let w = store_in g.S.Store.view t in
     let s = t.search in
-    let b = c.deref-mut.result.now in
+    let b = c.deref_mut.result.now in
     let out = c.read.new.out in
     let k = c.unwrap-count.result in
     let e = place_found {m = m} {t = model before} {v = v} {w = w} {b = c.args.budget} (vec_items t.voices) (rows_in t) s c.in-Ok.outcome c.in-Found.is c.in-Ok.ensures.does in
-    let h : length (vec_items s.sets) ≤ length b = omega (arith, t.few, t.searched, s.sets.ok, c.deref-mut.ensures.len, c.in-ok-values.ensures.len) in
+    let h : length (vec_items s.sets) ≤ length b = omega (arith, t.few, t.searched, s.sets.ok, c.deref_mut.ensures.len, c.in_ok-values.ensures.len) in
     let r = read_wrote {m = m} {v = w} (vec_items t.voices) (rows_in t) s b out c.read.result e h c.read.ensures.does in
     let f : vec_items c.truncate.new.self ≡ take k out =
-    c.truncate.ensures.items ∙ ap (take k) (with_items_is c.in-ok-values.values out (c.read.auto.out ∙ c.deref-mut.ensures.len)) in
+    c.truncate.ensures.items ∙ ap (take k) (with_items_is c.in_ok-values.values out (c.read.auto.out ∙ c.deref_mut.ensures.len)) in
     let a = values_left s b out c.read.result k c.in-Ok.outcome c.in-Found.is c.unwrap-count.ensures e r ∙ ap Answer.found (sym f) in
     record {
       does = subst (λ (x : Answer). Done m (model before) v (solve c.args.budget) x (model t) w) a c.in-Ok.ensures.does;

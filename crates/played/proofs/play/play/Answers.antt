@@ -12,15 +12,15 @@ loop-call-preserved g c =
     let i = c.loop-call.call-index in
     let before = c.loop-call.invariant.2 in
     let after = c.perform.new.table in
-    let last = c.in-ok-perform.ensures.lasts in
+    let last = c.in_ok-perform.ensures.lasts in
     let many : length ys ≡ i = omega (arith, c.loop-call.answers.ok, c.loop-call.invariant.0) in (
-      omega (arith, c.push-reserved.ensures.len, c.loop-call.invariant.0),
-      omega (arith, c.push-reserved.ensures.capacity, c.loop-call.invariant.1),
+      omega (arith, c.push_reserved.ensures.len, c.loop-call.invariant.0),
+      omega (arith, c.push_reserved.ensures.capacity, c.loop-call.invariant.1),
       (
         last.lost before.0,
         one_more {m = g.B.Bank.meaning} {t = model after (last.lost before.0)} {v = store_in g.S.Store.view after} xs ys
-            (vec_items c.push-reserved.new.self) i c.call-item.result c.in-ok-perform.field-0 c.loop-call-test.true many c.call-item.is
-            c.push-reserved.ensures.items (last.history (told (calls_of (take i xs)) (answers_of ys)) before.0 before.1),
+            (vec_items c.push_reserved.new.self) i c.call-item.result c.in_ok-perform.field-0 c.loop-call-test.true many c.call-item.is
+            c.push_reserved.ensures.items (last.history (told (calls_of (take i xs)) (answers_of ys)) before.0 before.1),
       ),
     )
 

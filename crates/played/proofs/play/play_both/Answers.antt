@@ -5,11 +5,11 @@ use Rattle.played.proofs.play.play_both.Goals as goal
 
 pub returns : goal.returns
 returns g c =
-    let p = c.in-ok-answers.ensures in
-    let q = c.in-ok-others.ensures in
+    let p = c.in_ok-answers.ensures in
+    let q = c.in_ok-others.ensures in
     record {
       first = p;
       second = q;
-      agreed = agreed_by g.B.Bank.meaning g.C.Bank.meaning g.met.B.Bank.lawful g.met.C.Bank.lawful (calls_of c.args.calls.now) (calls_of c.args.other-calls.now)
-          (answers_of (vec_items c.in-ok-answers.answers)) (answers_of (vec_items c.in-ok-others.others)) p q;
+      agreed = agreed_by g.B.Bank.meaning g.C.Bank.meaning g.met.B.Bank.lawful g.met.C.Bank.lawful (calls_of c.args.calls.now) (calls_of c.args.other_calls.now)
+          (answers_of (vec_items c.in_ok-answers.answers)) (answers_of (vec_items c.in_ok-others.others)) p q;
     }

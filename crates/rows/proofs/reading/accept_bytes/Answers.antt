@@ -22,4 +22,4 @@ returns-in_err-accept-clause-value g c =
     let q = err_from_is_err_and c.from_residual-in_err-accept.result c.from_residual-in_err-accept.ensures.1 in
     q.1 ∙ ap handed_on q.2
     ∙ sym (verdict_declined g.B.Bank.meaning c.args.bytes.now c.args.voices c.in_err-accept.field-0.0 (row_of c.read_row.new.row) (row_of c.args.row.now)
-        c.in_ok-read_row.ensures.value c.in_ok-read_row.ensures.after c.in_err-accept.ensures)
+    c.in_ok-read_row.ensures.value c.in_ok-read_row.ensures.after c.in_err-accept.ensures)

@@ -1,4 +1,4 @@
-use Rattle.std.proofs.Common.{◌≤◌, get_or, arith, rules}
+use Rattle.std.proofs.Common.{◌≤◌, get_or, arith}
 use lib.Count.{ones}
 use Rattle.std.proofs.lemmas.Nat.{ones-le}
 use Rattle.search.proofs.Scans.{size_more, size_none}

@@ -1,4 +1,4 @@
-use Rattle.std.proofs.Common.{◌≡◌, ◌+◌, Bool, true, drop, sym, ap, ◌∙◌}
+use Rattle.std.proofs.Common.{◌+◌, drop, sym, ap, ◌∙◌}
 use Rattle.rows.specs.Views.{rows_of}
 use Rattle.search.specs.Propagation.{Round, round_from}
 use Rattle.search.proofs.Scans.{Turned, round_idle, round_more, round_stop, round_none}

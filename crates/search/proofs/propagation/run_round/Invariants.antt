@@ -1,4 +1,4 @@
-use Rattle.std.proofs.Common.{◌≡◌, false, drop}
+use Rattle.std.proofs.Common.{◌≡◌, drop}
 use Rattle.rows.specs.Views.{rows_of}
 use Rattle.search.specs.Propagation.{round, round_from}
 use Rattle.search.proofs.propagation.run_round.Given as goal

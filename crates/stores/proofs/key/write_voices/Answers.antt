@@ -1,6 +1,5 @@
-use Rattle.std.proofs.Common.{◌≡◌, ℕ, Bool, cond, List, ◌++◌, map, length, get_or, take, drop, sym, ap, ◌∙◌, ap₂, arith}
+use Rattle.std.proofs.Common.{◌≡◌, ℕ, Bool, cond, List, ◌++◌, map, length, get_or, drop, sym, ap, ◌∙◌, ap₂, arith}
 use Rattle.std.proofs.lemmas.List.{take_all}
-use Rattle.sets.specs.Sets.{fixed}
 use Rattle.stores.specs.Keys.{voice_word}
 use Rattle.stores.proofs.Writing.{voices_more}
 use Rattle.stores.proofs.key.write_voices.Goals as goal

@@ -1,4 +1,4 @@
-use Rattle.std.proofs.Common.{◌≡◌, ℕ, ◌+◌, ◌-◌, ◌%◌, ◌≤◌, Bool, true, false, ◌||◌, List, length, get_or, take, drop, sym, ap, ◌∙◌, ap₂, arith, rules}
+use Rattle.std.proofs.Common.{◌≡◌, ℕ, ◌+◌, ◌-◌, ◌%◌, ◌≤◌, Bool, true, false, ◌||◌, List, length, get_or, take, drop, sym, ap, ◌∙◌, arith, rules}
 use Rattle.sets.specs.Placings.{same}
 use Rattle.std.proofs.lemmas.List.{at_drop_all}
 use Rattle.stores.specs.Stores.{member}

@@ -1,5 +1,5 @@
 use Rattle.std.proofs.Common.{◌≡◌, ℕ, ◌^◌, ◌<◌, eqb, ap, ◌∙◌, rules}
-use Rattle.sets.specs.Sets.{mask, least}
+use Rattle.sets.specs.Sets.{mask}
 use Rattle.engine.specs.declared.level.LevelRecord.{LevelRecord}
 use Rattle.engine.proofs.Tests.{least_taken}
 use Rattle.engine.proofs.level.ops.advance_level.Goals as goal

@@ -1,4 +1,4 @@
-use Rattle.std.proofs.Common.{◌≡◌, sym, ap, ◌∙◌}
+use Rattle.std.proofs.Common.{sym}
 use Rattle.rows.specs.Views.{rows_of}
 use Rattle.engine.proofs.Openings.{open_from, none_open, some_open, not_empty, node_solution, node_hit, node_branch}
 use Rattle.engine.proofs.node.ops.classify.Goals as goal

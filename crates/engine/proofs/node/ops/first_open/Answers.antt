@@ -1,4 +1,4 @@
-use Rattle.std.proofs.Common.{◌≡◌, sym, ◌∙◌}
+use Rattle.std.proofs.Common.{sym, ◌∙◌}
 use Rattle.engine.proofs.Tests.{open_more, open_here, open_none}
 use Rattle.engine.proofs.node.ops.first_open.Goals as goal
 

@@ -1,4 +1,4 @@
-use Rattle.std.proofs.Common.{◌≤◌, arith}
+use Rattle.std.proofs.Common.{arith}
 use Rattle.engine.proofs.state.Search.clear.Goals as goal
 
 pub invariant_of-self : goal.invariant_of-self

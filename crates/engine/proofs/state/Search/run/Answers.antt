@@ -1,4 +1,4 @@
-use Rattle.std.proofs.Common.{◌≡◌, ◌+◌, ◌-◌, ◌<◌, ◌≤◌, sym, refl, ◌∙◌, inl, inr, arith}
+use Rattle.std.proofs.Common.{◌-◌, sym, refl, ◌∙◌, inl, inr, arith}
 use Rattle.rows.specs.Views.{rows_of}
 use Rattle.engine.specs.Searches.{table_of}
 use Rattle.engine.proofs.Searching.{ran_none, ran_then, runs_by}

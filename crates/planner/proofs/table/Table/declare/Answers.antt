@@ -1,4 +1,4 @@
-use Rattle.std.proofs.Common.{◌≡◌, ◌+◌, ◌^◌, ◌<◌, ◌≤◌, length, vec_items, vec_len, arith, rules}
+use Rattle.std.proofs.Common.{◌+◌, ◌^◌, ◌<◌, ◌≤◌, length, vec_items, arith, rules}
 use Rattle.search.specs.Calls.{Answer}
 use Rattle.search.specs.Calls.Call.{declare}
 use Rattle.engine.specs.Searches.{table_of, voice_count}

@@ -1,4 +1,4 @@
-use Rattle.std.proofs.Common.{◌≡◌, ◌<◌, ◌≤◌, length, take, vec_items, arith}
+use Rattle.std.proofs.Common.{◌≤◌, length, take, vec_items, arith}
 use Rattle.std.proofs.lemmas.List.{length-map, length-take-le}
 use Rattle.rows.specs.Views.{row_of}
 use Rattle.planner.specs.Shown.{rows_in}

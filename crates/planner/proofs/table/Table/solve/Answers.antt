@@ -1,4 +1,4 @@
-use Rattle.std.proofs.Common.{◌≡◌, ℕ, ◌+◌, ◌<◌, ◌≤◌, true, List, take, vec_items, sym, refl, ap, inl, arith}
+use Rattle.std.proofs.Common.{◌≡◌, ◌+◌, ◌<◌, ◌≤◌, true, List, take, vec_items, sym, refl, ap, inl, arith}
 use Rattle.rows.specs.declared.row.Row.{Row}
 use Rattle.rows.specs.Views.{rows_of}
 use Rattle.search.specs.Calls.{Answer, over, result}

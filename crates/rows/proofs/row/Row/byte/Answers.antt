@@ -1,4 +1,4 @@
-use Rattle.std.proofs.Common.{◌≤◌, length, vec_items, sym, arith, rules}
+use Rattle.std.proofs.Common.{◌≤◌, length, vec_items, sym, rules}
 use Rattle.std.proofs.lemmas.List.{get_or_past}
 use Rattle.rows.proofs.row.Row.byte.Goals as goal
 
