@@ -1,11 +1,13 @@
 -- A whole row built.
-use Rattle.std.proofs.Common.{◌≡◌, ℕ, ◌-◌, ◌≤◌, Bool, true, false, cond, leb, List, ◌∷◌, length, get_or, take, is_ok, Ok, Err, Result, sym, refl, ap, ◌∙◌, subst, ap₂, arith}
+use Rattle.rows.specs.declared.bank.Bank as bank
+use Rattle.stores.specs.declared.store.Store as store
+use Rattle.std.proofs.Common.{◌≡◌, ℕ, ◌≤◌, Bool, true, false, cond, leb, List, ◌∷◌, length, get_or, take, is_ok, Ok, Err, Result, sym, refl, ap, ◌∙◌, subst, ap₂, arith}
 use Rattle.std.proofs.lemmas.Bool.{leb-true, le-leb}
 use Rattle.std.proofs.lemmas.List.{take_all, length-append}
 use Rattle.rows.specs.declared.member.Member.{Member}
 use Rattle.rows.specs.Rows.{Meaning}
-use Rattle.rows.specs.Bytes.{member_bytes}
-use Rattle.rows.proofs.Readings.{members_long}
+use Rattle.writing.specs.WrittenRows.{written_members}
+use Rattle.writing.proofs.RowBytes.{members_length}
 use Rattle.stores.specs.Stores.{View}
 use Rattle.search.specs.Calls.{Answer}
 use Rattle.planner.specs.declared.table.Table.{Table}
@@ -49,7 +51,7 @@ filled m letter body mem begun after members t e b w =
     let all : left new ≡ n = omega arith in
     let whole : after ≡ written mem 0 (row_bytes letter body (take n members)) =
     w ∙ ap₂ (λ (x : Ticket) (y : List ℕ). members_memory x members y) p.1 front
-    ∙ written_more mem (letter ∷ body) (member_bytes (take (left new) members)) 0 (next_place new) (omega arith) (omega arith)
+    ∙ written_more mem (letter ∷ body) (written_members (take (left new) members)) 0 (next_place new) (omega arith) (omega arith)
     ∙ ap (λ k. written mem 0 (row_bytes letter body (take k members))) all in (
       whole ∙ sym (ap (λ (x : Verdict). cond (is_ok x) (written mem 0 (row_bytes letter body (take n members))) mem) p.0),
       whole,
@@ -106,7 +108,7 @@ closed m letter body mem after members t u e g same w =
       (λ ok.
           let enough : n ≤ k = leb-true n k (checked_passed (leb n k) MembersMissing (Ok tt) (sym built ∙ ok)).0 in
           let bytes : List ℕ = row_bytes letter body members in
-          let long : length bytes ≡ row_length u = omega (arith, length-append body (member_bytes members), members_long members, ap row_length whole) in
+          let long : length bytes ≡ row_length u = omega (arith, length-append body (written_members members), members_length members, ap row_length whole) in
           ap (take (row_length u)) (w ∙ ap (λ (x : List Member). written mem 0 (row_bytes letter body x)) (take_all n members (omega arith)))
           ∙ written_front mem bytes (row_length u) long),
     )
@@ -132,7 +134,7 @@ answer_same (Err (Posting p)) = refl
 
 -- ---- what `build` ensures
 
-module _ {B S : Type 0} (m : Meaning) (view : S → View) (letter : ℕ) (body mem : List ℕ) (members : List Member) (t u : Table B S) where
+module _ {B S : Type 0} {b : bank.Ghosts B} {s : store.Ghosts S} (m : Meaning) (view : S → View) (letter : ℕ) (body mem : List ℕ) (members : List Member) (t u : Table B S b s) where
   -- the whole row answered with r, with the memory and the table u afterwards
   pub record Built (r : Result Unit BuildRefusal) (after : List ℕ) : Type 0 where
     pub value : own_fault r ≡ build_verdict m letter body members (length mem)

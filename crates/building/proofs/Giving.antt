@@ -1,10 +1,10 @@
 -- Members given one after the other.
-use Rattle.std.proofs.Common.{◌≡◌, ℕ, ◌+◌, ◌-◌, ◌*◌, ◌/◌, ◌%◌, ◌<◌, ◌≤◌, Bool, true, false, cond, ltb, leb, List, [], ◌∷◌, length, get_or, take, ℤ, is_ok, Ok, Err, Result, sym, refl, ap, ◌∙◌, ap₂, add-zero, add_assoc, arith, w16, of_z}
+use Rattle.std.proofs.Common.{◌≡◌, ℕ, ◌+◌, ◌*◌, ◌/◌, ◌%◌, ◌<◌, ◌≤◌, Bool, true, false, cond, ltb, leb, List, [], ◌∷◌, length, get_or, take, ℤ, is_ok, Ok, Err, Result, sym, refl, ap, ◌∙◌, ap₂, add-zero, add_assoc, arith, w16, of_z}
 use Rattle.std.proofs.lemmas.Bool.{ltb-true, ltb-false, le-leb, lt-leb}
 use Rattle.std.proofs.lemmas.List.{take_more, take_all, length-take-le}
 use Rattle.rows.specs.declared.member.Member.{Member}
-use Rattle.rows.specs.Bytes.{member_bytes}
-use Rattle.rows.proofs.Readings.{members_long}
+use Rattle.writing.specs.WrittenRows.{written_members}
+use Rattle.writing.proofs.RowBytes.{members_length}
 use Rattle.building.specs.declared.fault.BuildFault.{BuildFault}
 use Rattle.building.specs.declared.fault.BuildFault.TheVariants.{AllGiven, ShortMemory}
 use Rattle.building.specs.declared.ticket.Ticket.{Ticket}
@@ -39,7 +39,7 @@ count_back false f e = (refl, cc)
 
 -- i of the members xs are given, from the ticket t and the memory mem on
 abbrev pub Given : Ticket → List ℕ → List Member → ℕ → Ticket → List ℕ → Type 0
-Given t mem xs i current memory = (i ≤ left t) × (current ≡ further i t) × (memory ≡ written mem (next_place t) (member_bytes (take i xs)))
+Given t mem xs i current memory = (i ≤ left t) × (current ≡ further i t) × (memory ≡ written mem (next_place t) (written_members (take i xs)))
 
 pub given_none : (t : Ticket) (mem : List ℕ) (xs : List Member) → Given t mem xs 0 t mem
 given_none t mem xs =
@@ -47,7 +47,7 @@ given_none t mem xs =
 
 pub given_more : (t current next : Ticket) (mem memory after : List ℕ) (xs : List Member) (i v : ℕ) (z : ℤ) (x : Member)
     → t.given ≤ t.count → row_length t ≤ length mem → length memory ≡ length mem → i < length xs → Given t mem xs i current memory
-    → one_member v z ≡ member_bytes (get_or xs i x ∷ [])
+    → one_member v z ≡ written_members (get_or xs i x ∷ [])
     → Ok next ≡ member_answer current (length memory) → after ≡ member_memory current v z memory → Given t mem xs (i + 1) next after
 given_more t current next mem memory after xs i v z x few room same h g m e w =
     let p = given_passed (member_verdict current (length memory)) current next e in
@@ -56,14 +56,14 @@ given_more t current next mem memory after xs i v z x few room same h g m e w =
     let c : current.head ≡ t.head = ap (λ (y : Ticket). y.head) g.1 in
     let less : current.given < current.count =
     ltb-true current.given current.count (count_passed (ltb current.given current.count) (sym (member_decided current (length memory) (omega arith)) ∙ p.0)) in
-    let old = member_bytes (take i xs) in
-    let long : length old ≡ 4 * i = members_long (take i xs) ∙ ap (λ n. 4 * n) (length-take-le i xs (omega arith)) in (
+    let old = written_members (take i xs) in
+    let long : length old ≡ 4 * i = members_length (take i xs) ∙ ap (λ n. 4 * n) (length-take-le i xs (omega arith)) in (
       omega arith,
       p.1 ∙ ap (further 1) g.1 ∙ (λ j. record { head = t.head; count = t.count; given = add_assoc t.given i 1 j }),
       w ∙ ap (λ (y : Verdict). cond (is_ok y) (written memory (next_place current) (one_member v z)) memory) p.0
           ∙ ap₂ (λ (y y' : List ℕ). written y (next_place current) y') g.2 m
-          ∙ written_more mem old (member_bytes (get_or xs i x ∷ [])) (next_place t) (next_place current) (omega arith) (omega arith)
-          ∙ ap (written mem (next_place t)) (sym (members_push (take i xs) (get_or xs i x)) ∙ ap member_bytes (sym (take_more xs i x h))),
+          ∙ written_more mem old (written_members (get_or xs i x ∷ [])) (next_place t) (next_place current) (omega arith) (omega arith)
+          ∙ ap (written mem (next_place t)) (sym (members_push (take i xs) (get_or xs i x)) ∙ ap written_members (sym (take_more xs i x h))),
     )
 
 -- all of them
@@ -75,7 +75,7 @@ given_all t current mem memory xs i h g =
     let ok : Ticket → Result Ticket Declined = λ x. Ok x in (
       ap ok (g.1 ∙ ap (λ n. further n t) h)
           ∙ sym (ap (λ b. cond b (Ok (further (length xs) t)) (Err (record { ticket = further k t; fault = AllGiven }))) fits),
-      g.2 ∙ ap (λ (l : List Member). written mem (next_place t) (member_bytes l)) (take_all i xs (omega arith) ∙ sym (take_all k xs (omega arith))),
+      g.2 ∙ ap (λ (l : List Member). written mem (next_place t) (written_members l)) (take_all i xs (omega arith) ∙ sym (take_all k xs (omega arith))),
     )
 
 -- no more: the row is full
@@ -98,11 +98,11 @@ given_full t current mem memory after xs i v z d few room same h g e w =
       ap err p.2 ∙ ap₂ back (g.1 ∙ ap (λ n. further n t) end) q.1
           ∙ sym (ap (λ y. cond y (Ok (further (length xs) t)) (Err (record { ticket = further k t; fault = AllGiven }))) many),
       w ∙ ap (λ (y : Verdict). cond (is_ok y) (written memory (next_place current) (one_member v z)) memory) p.1
-          ∙ g.2 ∙ ap (λ n. written mem (next_place t) (member_bytes (take n xs))) end,
+          ∙ g.2 ∙ ap (λ n. written mem (next_place t) (written_members (take n xs))) end,
     )
 
 -- the bytes of a member whose voice is given by its low byte
-pub item_bytes : (x : Member) (v : ℕ) (z : ℤ) → v ≡ x.voice % 256 → z ≡ x.argument → one_member v z ≡ member_bytes (x ∷ [])
+pub item_bytes : (x : Member) (v : ℕ) (z : ℤ) → v ≡ x.voice % 256 → z ≡ x.argument → one_member v z ≡ written_members (x ∷ [])
 item_bytes x v z p q =
     let e : v % 0x100 ≡ x.voice % 0x100 = omega arith in
     λ i. 0x4D ∷ e i ∷ of_z w16 (q i) % 0x100 ∷ of_z w16 (q i) / 0x100 ∷ []

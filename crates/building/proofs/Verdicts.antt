@@ -1,4 +1,6 @@
 -- What verdicts say of answers, memory and table.
+use Rattle.rows.specs.declared.bank.Bank as bank
+use Rattle.stores.specs.declared.store.Store as store
 use Rattle.std.proofs.Common.{◌≡◌, ℕ, ◌≤◌, Bool, true, false, cond, eqb, List, ◌∷◌, length, set, is_ok, Ok, Err, sym, refl, ap, ◌∙◌, subst}
 use Rattle.std.proofs.lemmas.Bool.{leb-true}
 use Rattle.rows.specs.Rows.{Meaning}
@@ -50,7 +52,7 @@ begun m letter body mem after t h e w =
 
 -- ---- the table
 
-module _ {B S : Type 0} (m : Meaning) (view : S → View) (t u : Table B S) (a : Answer) where
+module _ {B S : Type 0} {b : bank.Ghosts B} {s : store.Ghosts S} (m : Meaning) (view : S → View) (t u : Table B S b s) (a : Answer) where
   -- refused: the table stays
   pub stays : (v : Verdict) (f : BuildFault) (bytes : List ℕ) → v ≡ Err f → u ≡ t → Posts v m view t bytes a u × PostLasts v m view t bytes a u
   stays v f bytes e same = (subst (λ (x : Verdict). Posts x m view t bytes a u) (sym e) same, subst (λ (x : Verdict). PostLasts x m view t bytes a u) (sym e) same)

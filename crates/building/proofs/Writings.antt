@@ -3,7 +3,7 @@ use Rattle.std.proofs.Common.{◌≡◌, ℕ, suc, ◌+◌, ◌/◌, ◌%◌, �
 use borrow.Rule.Slice.PartMut.{put_mid}
 use Rattle.std.proofs.lemmas.List.{append_assoc, take-append-drop, take_at, drop_at, drop-drop, length-append, length-take-le}
 use Rattle.rows.specs.declared.member.Member.{Member}
-use Rattle.rows.specs.Bytes.{member_bytes}
+use Rattle.writing.specs.WrittenRows.{written_members}
 use Rattle.building.specs.Building.{written}
 
 -- a part of the memory, copied over
@@ -46,7 +46,7 @@ written_front mem bytes n e = take_at bytes (drop (0 + length bytes) mem) n e
 
 -- ---- members
 
-pub members_push : (xs : List Member) (x : Member) → member_bytes (xs ++ (x ∷ [])) ≡ member_bytes xs ++ member_bytes (x ∷ [])
+pub members_push : (xs : List Member) (x : Member) → written_members (xs ++ (x ∷ [])) ≡ written_members xs ++ written_members (x ∷ [])
 members_push [] x = refl
 members_push (y ∷ xs) x =
     ap (λ (l : List ℕ). 0x4D ∷ y.voice % 0x100 ∷ of_z w16 y.argument % 0x100 ∷ of_z w16 y.argument / 0x100 ∷ l) (members_push xs x)

@@ -1,7 +1,7 @@
 -- A row built step by step: what Begin and Member answer, and what they leave in memory.
 use Rattle.std.specs.Prelude.{ℕ, ◌+◌, ◌*◌, Bool, cond, ◌&&◌, List, [], ◌∷◌, ◌++◌, length, take, drop, ℤ, is_ok, Ok, Err, Result, ◌==◌, nat_le, nat_lt, slice_index}
 use Rattle.rows.specs.Rows.{Meaning}
-use Rattle.rows.specs.Bytes.{member_bytes}
+use Rattle.writing.specs.WrittenRows.{written_members}
 use Rattle.building.specs.declared.fault.BuildFault.{BuildFault}
 use Rattle.building.specs.declared.fault.BuildFault.TheVariants.{UnknownLetter, BadCount, WrongLength, ShortMemory, AllGiven, MembersMissing}
 use Rattle.building.specs.declared.ticket.Ticket.{Ticket}
@@ -90,7 +90,7 @@ member_answer t room = further_or_back (member_verdict t room) t
 
 -- the bytes of one member
 abbrev pub one_member : ℕ → ℤ → List ℕ
-one_member voice argument = member_bytes (record { voice = voice; argument = argument } ∷ [])
+one_member voice argument = written_members (record { voice = voice; argument = argument } ∷ [])
 
 -- the memory afterwards: the member at its place
 abbrev pub member_memory : Ticket → ℕ → ℤ → List ℕ → List ℕ

@@ -1,5 +1,7 @@
 -- What Close answers and does.
-use Rattle.std.specs.Prelude.{◌≡◌, ℕ, List, length, take, Some, None, Ok, Err, Option, Result}
+use Rattle.rows.specs.declared.bank.Bank as bank
+use Rattle.stores.specs.declared.store.Store as store
+use Rattle.std.specs.Prelude.{◌≡◌, ℕ, List, take, Some, None, Ok, Err, Option, Result}
 use Rattle.rows.specs.Rows.{Meaning}
 use Rattle.stores.specs.Stores.{View}
 use Rattle.search.specs.Calls.{Call, Answer}
@@ -34,13 +36,13 @@ to_hand_back (Err fault) t = Some (record { ticket = t; fault = fault })
 abbrev pub row_in : Ticket → List ℕ → List ℕ
 row_in t memory = take (row_length t) memory
 
-module _ {B S : Type 0} where
+module _ {B S : Type 0} {b : bank.Ghosts B} {s : store.Ghosts S} where
   -- Where nothing is wrong, the table t and its store come to the table u and its store by Post of these bytes, with this answer; otherwise they stay.
-  abbrev pub Posts : Verdict → Meaning → (S → View) → Table B S → List ℕ → Answer → Table B S → Type 0
+  abbrev pub Posts : Verdict → Meaning → (S → View) → Table B S b s → List ℕ → Answer → Table B S b s → Type 0
   Posts (Ok x) m view t bytes a u = CallDone m view t (Call.post bytes) a u
   Posts (Err fault) m view t bytes a u = u ≡ t
 
   -- and then what lasts over whole histories of calls lasts over this Post
-  abbrev pub PostLasts : Verdict → Meaning → (S → View) → Table B S → List ℕ → Answer → Table B S → Type 0
+  abbrev pub PostLasts : Verdict → Meaning → (S → View) → Table B S b s → List ℕ → Answer → Table B S b s → Type 0
   PostLasts (Ok x) m view t bytes a u = CallLasts m view t (Call.post bytes) a u
   PostLasts (Err fault) m view t bytes a u = u ≡ t

@@ -2,7 +2,7 @@
 use Rattle.std.specs.Prelude.{ℕ, ◌-◌, cond, List, length, take, is_ok, Ok, Err, Result, nat_le, slice_index}
 use Rattle.rows.specs.declared.member.Member.{Member}
 use Rattle.rows.specs.Rows.{Meaning}
-use Rattle.rows.specs.Bytes.{member_bytes, encode}
+use Rattle.writing.specs.WrittenRows.{written_members, written_row}
 use Rattle.search.specs.Calls.{Answer}
 use Rattle.building.specs.declared.fault.BuildFault.TheVariants.{AllGiven, MembersMissing}
 use Rattle.building.specs.declared.refusal.BuildRefusal.{BuildRefusal}
@@ -27,13 +27,13 @@ members_answer t members =
 
 -- the memory afterwards: as many of them as the row has
 abbrev pub members_memory : Ticket → List Member → List ℕ → List ℕ
-members_memory t members memory = written memory (next_place t) (member_bytes (take (left t) members))
+members_memory t members memory = written memory (next_place t) (written_members (take (left t) members))
 
 -- ---- the whole row
 
 -- the bytes of the row with this letter, body and members
 abbrev pub row_bytes : ℕ → List ℕ → List Member → List ℕ
-row_bytes letter body members = encode (record { letter = letter; body = body; members = members })
+row_bytes letter body members = written_row (record { letter = letter; body = body; members = members })
 
 -- the members are as many as the body's first byte says
 abbrev pub count_verdict : List ℕ → List Member → Verdict

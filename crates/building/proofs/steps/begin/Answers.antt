@@ -6,7 +6,7 @@ pub returns : goal.returns
 returns g c =
     let some : 1 ≤ length c.args.memory.now = search rules in
     record {
-      value = c.in-ok-ticket.ensures;
-      after = begun g.B.Bank.meaning c.args.letter c.args.body.now c.args.memory.now c.write-at.new.memory c.in-ok-ticket.ticket
-          some c.in-ok-ticket.ensures c.write-at.ensures;
+      value = c.in_ok-ticket.ensures;
+      after = begun g.B.Bank.meaning c.args.letter c.args.body.now c.args.memory.now c.write_at.new.memory c.in_ok-ticket.ticket
+          some c.in_ok-ticket.ensures c.write_at.ensures;
     }

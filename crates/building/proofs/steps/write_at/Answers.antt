@@ -4,5 +4,5 @@ use Rattle.building.proofs.steps.write_at.Goals as goal
 
 pub returns : goal.returns
 returns c =
-    copied c.args.memory.now c.args.bytes.now c.copy-from-slice.new.self c.args.place (c.args.place + length c.args.bytes.now - c.args.place)
-    c.copy-from-slice.ensures.after (omega arith)
+    copied c.args.memory.now c.args.bytes.now c.copy_from_slice.new.self c.args.place (c.args.place + length c.args.bytes.now - c.args.place)
+    c.copy_from_slice.ensures.after (omega arith)
