@@ -1,12 +1,11 @@
 -- What stands at the front of bytes, by cases, and what it says of the bytes.
-use Rattle.std.proofs.Common.{◌≡◌, ℕ, suc, ◌+◌, ◌*◌, ◌<◌, ◌≤◌, Bool, true, false, cond, ◌&&◌, eqb, ltb, List, [], ◌∷◌, ◌++◌, length, get_or, take, drop, Some, None, Option, sym, refl, ap, ◌∙◌, subst, inl, inr, arith}
-use Rattle.std.proofs.lemmas.List.{length-take, length-drop, take-append-drop, take_all, nil_from_length}
-use Rattle.std.proofs.lemmas.Bool.{both_ways, cases_Bool, cases_lt, cond-true, cond-false, lt-ltb, le-ltb, eqb-true, eqb-false, eq-eqb, ne_eqb, and_from, and_parts}
+use Rattle.std.proofs.Common.{◌≡◌, ℕ, ◌+◌, ◌*◌, ◌<◌, ◌≤◌, Bool, true, false, cond, eqb, ltb, List, [], ◌∷◌, length, get_or, take, drop, Some, None, sym, refl, ap, ◌∙◌, subst, inl, inr, arith}
+use Rattle.std.proofs.lemmas.List.{length-take, take_all}
+use Rattle.std.proofs.lemmas.Bool.{cases_Bool, cases_lt, cond-true, cond-false, lt-ltb, le-ltb, eqb-true, eqb-false, eq-eqb, ne_eqb, and_from}
 use Rattle.rows.specs.Rows.{RowData, Meaning}
-use Rattle.rows.specs.Bytes.{Bytes, count_byte, head_length, letter_byte, lettered}
+use Rattle.rows.specs.Bytes.{count_byte, head_length, letter_byte, lettered}
 use Rattle.search.specs.Calls.{begun, Judgement, judged}
 use Rattle.search.specs.Calls.Call.{declare, post}
-use Rattle.sheets.specs.declared.fault.Layer.{Layer}
 use Rattle.sheets.specs.declared.fault.Layer.TheVariants.{Sheet}
 use Rattle.sheets.specs.Sheets.{number_in}
 use Rattle.sheets.specs.Reading.{Item, if_passes, end_item, voice_item, front_row, row_item, item_at}

@@ -5,7 +5,9 @@ use Rattle.std.proofs.lemmas.List.{append-nil, append_assoc, length-append, leng
 use Rattle.rows.specs.declared.member.Member.{Member}
 use Rattle.rows.specs.declared.row.Row.{Row}
 use Rattle.rows.specs.Rows.{RowData}
-use Rattle.rows.specs.Bytes.{encode, member_bytes, total_bytes}
+use Rattle.rows.specs.Bytes.{total_bytes}
+use Rattle.writing.proofs.RowBytes.{row_length}
+use Rattle.writing.specs.WrittenRows.{written_row, written_members}
 use Rattle.rows.specs.Views.{row_of, rows_of}
 use Rattle.writing.specs.Written.{written, Piece}
 use Rattle.writing.proofs.Places.{piece_two}
@@ -44,46 +46,46 @@ voice_more voices i from at next before between after h p q =
 
 -- ---- members
 
-members_push : (members : List Member) (x : Member) → member_bytes (members ++ (x ∷ [])) ≡ member_bytes members ++ member_bytes (x ∷ [])
+members_push : (members : List Member) (x : Member) → written_members (members ++ (x ∷ [])) ≡ written_members members ++ written_members (x ∷ [])
 members_push [] x = refl
 members_push (y ∷ members) x =
-    ap (λ (l : List ℕ). member_bytes (y ∷ []) ++ l) (members_push members x)
+    ap (λ (l : List ℕ). written_members (y ∷ []) ++ l) (members_push members x)
 
-members_length : (members : List Member) → length (member_bytes members) ≡ 4 * length members
+members_length : (members : List Member) → length (written_members members) ≡ 4 * length members
 members_length [] = refl
 members_length (x ∷ members) = omega (arith, members_length members)
 
 pub member_inside : (members : List Member) (i from at limit : ℕ) (before between : List ℕ) → i < length members
-    → Piece from (member_bytes (take i members)) before between at → from + length (member_bytes members) < limit → at + 4 < limit
+    → Piece from (written_members (take i members)) before between at → from + length (written_members members) < limit → at + 4 < limit
 member_inside members i from at limit before between h p l =
     omega (arith, p.place, members_length (take i members), length-take-le i members (omega arith), members_length members)
 
 pub member_more : (members : List Member) (i from at next : ℕ) (d : Member) (before between after : List ℕ) → i < length members
-    → Piece from (member_bytes (take i members)) before between at → Piece at (member_bytes (get_or members i d ∷ [])) between after next
-    → Piece from (member_bytes (take (i + 1) members)) before after next
+    → Piece from (written_members (take i members)) before between at → Piece at (written_members (get_or members i d ∷ [])) between after next
+    → Piece from (written_members (take (i + 1) members)) before after next
 member_more members i from at next d before between after h p q =
     let P : List ℕ → Type 0 = λ l. Piece from l before after next in
-    subst P (sym (ap member_bytes (take_more members i d h) ∙ members_push (take i members) (get_or members i d)))
-    (piece_two from at next (member_bytes (take i members)) (member_bytes (get_or members i d ∷ [])) before between after p q)
+    subst P (sym (ap written_members (take_more members i d h) ∙ members_push (take i members) (get_or members i d)))
+    (piece_two from at next (written_members (take i members)) (written_members (get_or members i d ∷ [])) before between after p q)
 
 -- ---- rows
 
 rows_append : (rows others : List RowData) → row_records (rows ++ others) ≡ row_records rows ++ row_records others
 rows_append [] others = refl
 rows_append (r ∷ rows) others =
-    ap (λ (l : List ℕ). encode r ++ l) (rows_append rows others) ∙ sym (append_assoc (encode r) (row_records rows) (row_records others))
+    ap (λ (l : List ℕ). written_row r ++ l) (rows_append rows others) ∙ sym (append_assoc (written_row r) (row_records rows) (row_records others))
 
 pub rows_length : (rows : List RowData) → length (row_records rows) ≡ total_bytes rows
 rows_length [] = refl
-rows_length (r ∷ rows) = length-append (encode r) (row_records rows) ∙ ap (λ (n : ℕ). length (encode r) + n) (rows_length rows)
+rows_length (r ∷ rows) = omega (arith, length-append (written_row r) (row_records rows), row_length r, rows_length rows)
 
 -- the records of the first rows, and of one more
 rows_push : (rows : List Row) (i : ℕ) (r : Row) → i < length rows → r ≡ get_or rows i r
-    → row_records (rows_of (take (i + 1) rows)) ≡ row_records (rows_of (take i rows)) ++ encode (row_of r)
+    → row_records (rows_of (take (i + 1) rows)) ≡ row_records (rows_of (take i rows)) ++ written_row (row_of r)
 rows_push rows i r h is =
     ap row_records (map_more row_of rows i r h ∙ ap (λ (x : Row). rows_of (take i rows) ++ (row_of x ∷ [])) (sym is))
     ∙ rows_append (rows_of (take i rows)) (row_of r ∷ [])
-    ∙ ap (λ (l : List ℕ). row_records (rows_of (take i rows)) ++ l) (append-nil (encode (row_of r)))
+    ∙ ap (λ (l : List ℕ). row_records (rows_of (take i rows)) ++ l) (append-nil (written_row (row_of r)))
 
 rows_front : (rows : List Row) (k : ℕ) → length (row_records (rows_of (take k rows))) ≤ length (row_records (rows_of rows))
 rows_front rows k =
@@ -95,38 +97,38 @@ rows_front rows k =
 
 pub row_inside : (rows : List Row) (i from at limit : ℕ) (r : Row) (before between : List ℕ) → i < length rows → r ≡ get_or rows i r
     → Piece from (row_records (rows_of (take i rows))) before between at → from + length (row_records (rows_of rows)) < limit
-    → at + length (encode (row_of r)) < limit
+    → at + length (written_row (row_of r)) < limit
 row_inside rows i from at limit r before between h is p l =
-    omega (arith, p.place, rows_front rows (i + 1), ap length (rows_push rows i r h is), length-append (row_records (rows_of (take i rows))) (encode (row_of r)))
+    omega (arith, p.place, rows_front rows (i + 1), ap length (rows_push rows i r h is), length-append (row_records (rows_of (take i rows))) (written_row (row_of r)))
 
 pub row_more : (rows : List Row) (i from at next : ℕ) (r : Row) (before between after : List ℕ) → i < length rows → r ≡ get_or rows i r
-    → Piece from (row_records (rows_of (take i rows))) before between at → Piece at (encode (row_of r)) between after next
+    → Piece from (row_records (rows_of (take i rows))) before between at → Piece at (written_row (row_of r)) between after next
     → Piece from (row_records (rows_of (take (i + 1) rows))) before after next
 row_more rows i from at next r before between after h is p q =
     let P : List ℕ → Type 0 = λ l. Piece from l before after next in
     subst P (sym (rows_push rows i r h is))
-    (piece_two from at next (row_records (rows_of (take i rows))) (encode (row_of r)) before between after p q)
+    (piece_two from at next (row_records (rows_of (take i rows))) (written_row (row_of r)) before between after p q)
 
 -- one row: its letter, its body, its members
 pub row_pieces : (r : RowData) (at last letter : ℕ) (body : List ℕ) (members : List Member) (before one two after : List ℕ)
     → letter ≡ r.letter → body ≡ r.body → members ≡ r.members
-    → one ≡ written at (letter ∷ []) before → two ≡ written (at + 1) body one → Piece (at + 1 + length body) (member_bytes members) two after last
-    → Piece at (encode r) before after last
+    → one ≡ written at (letter ∷ []) before → two ≡ written (at + 1) body one → Piece (at + 1 + length body) (written_members members) two after last
+    → Piece at (written_row r) before after last
 row_pieces r at last letter body members before one two after l b m p q s =
     let P : List ℕ → Type 0 = λ bytes. Piece at bytes before after last in
-    subst P (ap₂ (λ (x : ℕ) (y : List ℕ). x ∷ y) l (ap₂ (λ (x : List ℕ) (y : List Member). x ++ member_bytes y) b m)) whole
+    subst P (ap₂ (λ (x : ℕ) (y : List ℕ). x ∷ y) l (ap₂ (λ (x : List ℕ) (y : List Member). x ++ written_members y) b m)) whole
   where
     front : Piece at (letter ∷ body) before two (at + 1 + length body)
     front = piece_two at (at + 1) (at + 1 + length body) (letter ∷ []) body before one two (record { place = refl; buffer = p }) (record { place = refl; buffer = q })
 
-    whole : Piece at (letter ∷ (body ++ member_bytes members)) before after last
-    whole = piece_two at (at + 1 + length body) last (letter ∷ body) (member_bytes members) before two after front s
+    whole : Piece at (letter ∷ (body ++ written_members members)) before after last
+    whole = piece_two at (at + 1 + length body) last (letter ∷ body) (written_members members) before two after front s
 
 -- its members end where it ends
 pub row_room : (r : RowData) (at limit : ℕ) (body : List ℕ) (members : List Member) → body ≡ r.body → members ≡ r.members
-    → at + length (encode r) < limit → at + 1 + length body + length (member_bytes members) < limit
+    → at + length (written_row r) < limit → at + 1 + length body + length (written_members members) < limit
 row_room r at limit body members b m h =
-    omega (arith, ap length b, ap (λ (x : List Member). length (member_bytes x)) m, length-append r.body (member_bytes r.members))
+    omega (arith, ap length b, ap (λ (x : List Member). length (written_members x)) m, length-append r.body (written_members r.members))
 
 -- ---- sheets
 

@@ -1,20 +1,20 @@
 -- The sheet of voices and rows that a table can have, read.
-use Rattle.std.proofs.Common.{◌≡◌, ℕ, zero, suc, ◌+◌, ◌*◌, ◌^◌, ◌<◌, ◌≤◌, Bool, true, false, not, ◌&&◌, ◌||◌, eqb, ltb, leb, List, [], ◌∷◌, ◌++◌, length, get_or, take, drop, Ok, Err, sym, refl, ap, ◌∙◌, subst, arith}
+use Rattle.std.proofs.Common.{◌≡◌, ℕ, zero, suc, ◌+◌, ◌*◌, ◌^◌, ◌<◌, ◌≤◌, Bool, true, false, not, ◌&&◌, ◌||◌, eqb, ltb, leb, List, [], ◌∷◌, ◌++◌, length, take, drop, Ok, sym, refl, ap, ◌∙◌, subst, arith}
 use Rattle.std.proofs.lemmas.List.{append-nil, append_assoc, length-append, take_at, drop_at, get_or_at, get_or_append_left}
-use Rattle.std.proofs.lemmas.Bool.{both_ways, and_from, and_parts, or_from, or_parts, cond-true, lt-ltb, lt-leb, le-ltb, eqb-true, eqb-false, ltb-true}
-use Rattle.sets.specs.Placings.{Proper}
+use Rattle.std.proofs.lemmas.Bool.{and_from, and_parts, or_from, or_parts, cond-true, lt-ltb, lt-leb, le-ltb, eqb-true, eqb-false, ltb-true}
 use Rattle.rows.specs.Rows.{RowData, Meaning, Verdict}
 use Rattle.rows.specs.Laws.{Laws, Accepted}
-use Rattle.rows.specs.Bytes.{letter_byte, count_byte, head_length, lettered, counted, long_enough, marked, Layout, LaidOut, decode, encode, member_bytes, total_bytes}
+use Rattle.rows.specs.Bytes.{count_byte, head_length, lettered, counted, long_enough, marked, Layout, LaidOut, decode, encode, member_bytes, total_bytes}
 use Rattle.rows.proofs.Layouts.{bytes_both_ways}
-use Rattle.search.specs.Limits.{most_voices, most_rows, most_bytes}
+use Rattle.writing.proofs.RowBytes.{row_same}
+use Rattle.search.specs.Limits.{most_rows, most_bytes}
 use Rattle.search.specs.Calls.{begun, Judgement, judge, judged, declined_under}
-use Rattle.search.specs.Calls.Call.{declare, post}
+use Rattle.search.specs.Calls.Call.{post}
 use Rattle.search.specs.Placed.{AllAccepted}
-use Rattle.search.specs.Results.{AllLaidOut, Limited}
+use Rattle.search.specs.Results.{AllLaidOut}
 use Rattle.planner.proofs.Judging.{voice_fits}
-use Rattle.sheets.specs.Sheets.{low_first, number_in, voice_record, voice_records, row_records, records, sheet}
-use Rattle.sheets.specs.Reading.{Item, if_passes, front_row, item_at, read_on, read_from, read_sheet}
+use Rattle.sheets.specs.Sheets.{low_first, number_in, voice_record, voice_records, row_records, sheet}
+use Rattle.sheets.specs.Reading.{if_passes, front_row, item_at, read_on, read_from, read_sheet}
 use Rattle.sheets.specs.Reading.Item.{voice, row}
 use Rattle.sheets.specs.Reading.Outcome.{accepted}
 use Rattle.sheets.specs.Laws.{Holdable}
@@ -90,7 +90,8 @@ module _ (m : Meaning) (L : Laws m) where
   rows_load (r ∷ rest) zero at voices rows H l = absurd (omega (arith, l))
   rows_load (r ∷ rest) (suc n) at voices rows H l =
       let others = row_records rest ++ (0x5A ∷ []) in
-      let split = append_assoc (encode r) (row_records rest) (0x5A ∷ []) in
+      let same = row_same m r (laid_out_at m rows r rest H.limited.laid_out) in
+      let split = ap (λ (x : List ℕ). (x ++ row_records rest) ++ (0x5A ∷ [])) same ∙ append_assoc (encode r) (row_records rest) (0x5A ∷ []) in
       let back = ((bytes_both_ways m).0 r (laid_out_at m rows r rest H.limited.laid_out)).2 in
       let more = append_assoc rows (r ∷ []) rest in
       ap (read_from m (suc n) at voices rows) split

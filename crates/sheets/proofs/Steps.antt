@@ -1,27 +1,26 @@
 -- One record read by the code, and the records read so far.
 use Rattle.std.proofs.Common.{◌≡◌, ℕ, zero, suc, ◌+◌, ◌-◌, ◌<◌, ◌≤◌, true, false, ltb, List, [], ◌∷◌, ◌++◌, length, get_or, take, drop, is_err, Some, None, Ok, Err, Option, Result, sym, refl, ap, ◌∙◌, subst, arith}
 use Rattle.std.proofs.lemmas.List.{length-drop, length-take, drop-drop, take_rest}
-use Rattle.std.proofs.lemmas.Bool.{both_ways, and_parts, not-false, ltb-true}
+use Rattle.std.proofs.lemmas.Bool.{and_parts, not-false, ltb-true}
 use Rattle.rows.specs.Rows.{RowData, Meaning}
 use Rattle.rows.specs.Bytes.{lettered, decode}
 use Rattle.stores.specs.Stores.{View}
-use Rattle.search.specs.Calls.{Table, begun, empty, Call, Answer, Judgement, reasons, judged, Does}
+use Rattle.search.specs.Calls.{Table, begun, empty, Answer, Judgement, reasons, judged, Does}
 use Rattle.search.specs.Calls.Call.{declare, post, wipe}
 use Rattle.search.proofs.HistoryFacts.{none_fits}
 use Rattle.planner.specs.declared.refusal.Refusal.{Refusal}
 use Rattle.planner.specs.Refusals.{refusal_number}
 use Rattle.sheets.specs.declared.fault.Cause.{Cause}
 use Rattle.sheets.specs.declared.fault.Cause.TheVariants.{NoRecord, LateVoice, Trailing, CutVoice, Declined}
-use Rattle.sheets.specs.declared.fault.Layer.{Layer}
 use Rattle.sheets.specs.declared.fault.SheetFault.{SheetFault}
 use Rattle.sheets.specs.Causes.{cause_number, cause_layer, cause_offset}
 use Rattle.sheets.specs.Reading.{Item, if_passes, item_at, Outcome, read_from, read_on, read_sheet}
 use Rattle.sheets.specs.Reading.Item.{last, voice, row, fault}
 use Rattle.sheets.specs.Reading.Outcome.{accepted, refused}
-use Rattle.sheets.specs.Loading.{LoadAnswer, load_answer, outcome_answer, LoadLeaves, Step, step_of, item_step, item_table, Unsearched, ItemRead, Filled, RecordsRead}
-use Rattle.sheets.specs.Loading.Load-answer.{loaded, declined}
+use Rattle.sheets.specs.Loading.{LoadAnswer, outcome_answer, LoadLeaves, Step, step_of, item_step, item_table, Unsearched, ItemRead, Filled, RecordsRead}
+use Rattle.sheets.specs.Loading.LoadAnswer.{loaded, declined}
 use Rattle.sheets.specs.Loading.Step.{ends, goes, fails}
-use Rattle.sheets.proofs.Items.{VoiceHere, RowHere, voice_here, row_here}
+use Rattle.sheets.proofs.Items.{voice_here, row_here}
 
 -- ---- a record whose call was made
 

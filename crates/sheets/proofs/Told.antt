@@ -1,11 +1,13 @@
 -- A sheet read to its end or to its first fault: the calls that it stands for, and its bytes.
-use Rattle.std.proofs.Common.{◌≡◌, ℕ, zero, suc, ◌+◌, ◌^◌, ◌<◌, ◌≤◌, List, [], ◌∷◌, ◌++◌, length, get_or, take, drop, sym, refl, ap, ◌∙◌, subst, arith}
+use Rattle.std.proofs.Common.{◌≡◌, ℕ, zero, suc, ◌+◌, ◌^◌, ◌<◌, ◌≤◌, List, [], ◌∷◌, ◌++◌, length, take, drop, sym, refl, ap, ◌∙◌, subst, arith}
 use Rattle.std.proofs.lemmas.List.{append-nil, append_assoc, length-append, length-take, length-take-le, length-drop, take-append-drop, get_or-take, get_or-drop}
 use Rattle.std.proofs.lemmas.Bool.{not-false}
 use Rattle.rows.specs.Rows.{RowData, Meaning}
 use Rattle.rows.specs.Laws.{Laws}
-use Rattle.rows.specs.Bytes.{Bytes, head_length, lettered, counted, long_enough, marked, Layout, decode, encode}
+use Rattle.rows.specs.Bytes.{Bytes, head_length, lettered, counted, long_enough, marked, Layout, LaidOut, decode, encode}
 use Rattle.rows.proofs.Layouts.{bytes_both_ways}
+use Rattle.writing.specs.WrittenRows.{written_row}
+use Rattle.writing.proofs.RowBytes.{row_same}
 use Rattle.stores.specs.Stores.{View}
 use Rattle.search.specs.Calls.{Table, begun, empty, Call, Answer, Judgement, reasons, judged, Does}
 use Rattle.search.specs.Calls.Call.{declare, post}
@@ -28,18 +30,18 @@ voices_push : (voices : List ℕ) (s : ℕ) → voice_records (voices ++ (s ∷ 
 voices_push [] s = append-nil (voice_record s)
 voices_push (x ∷ voices) s = ap (λ (y : List ℕ). voice_record x ++ y) (voices_push voices s) ∙ sym (append_assoc (voice_record x) (voice_records voices) (voice_record s))
 
-rows_push : (rows : List RowData) (r : RowData) → row_records (rows ++ (r ∷ [])) ≡ row_records rows ++ encode r
-rows_push [] r = append-nil (encode r)
-rows_push (x ∷ rows) r = ap (λ (y : List ℕ). encode x ++ y) (rows_push rows r) ∙ sym (append_assoc (encode x) (row_records rows) (encode r))
+rows_push : (rows : List RowData) (r : RowData) → row_records (rows ++ (r ∷ [])) ≡ row_records rows ++ written_row r
+rows_push [] r = append-nil (written_row r)
+rows_push (x ∷ rows) r = ap (λ (y : List ℕ). written_row x ++ y) (rows_push rows r) ∙ sym (append_assoc (written_row x) (row_records rows) (written_row r))
 
 records_voice : (voices : List ℕ) (rows : List RowData) (s : ℕ) → rows ≡ [] → records (voices ++ (s ∷ [])) rows ≡ records voices rows ++ voice_record s
 records_voice voices rows s e =
     subst (λ (x : List RowData). records (voices ++ (s ∷ [])) x ≡ records voices x ++ voice_record s) (sym e)
     (append-nil (voice_records (voices ++ (s ∷ []))) ∙ voices_push voices s ∙ ap (λ (y : List ℕ). y ++ voice_record s) (sym (append-nil (voice_records voices))))
 
-records_row : (voices : List ℕ) (rows : List RowData) (r : RowData) → records voices (rows ++ (r ∷ [])) ≡ records voices rows ++ encode r
+records_row : (voices : List ℕ) (rows : List RowData) (r : RowData) → records voices (rows ++ (r ∷ [])) ≡ records voices rows ++ written_row r
 records_row voices rows r =
-    ap (λ (y : List ℕ). voice_records voices ++ y) (rows_push rows r) ∙ sym (append_assoc (voice_records voices) (row_records rows) (encode r))
+    ap (λ (y : List ℕ). voice_records voices ++ y) (rows_push rows r) ∙ sym (append_assoc (voice_records voices) (row_records rows) (written_row r))
 
 declared_push : (h : List (Call × Answer)) (voices : List ℕ) (s : ℕ) → declared_after h (voices ++ (s ∷ [])) ≡ (declare s, done) ∷ declared_after h voices
 declared_push h [] s = refl
@@ -86,13 +88,11 @@ row_layout m t bs j =
       marks = not-false (marked (drop (head_length m bs) bs)) f.1.1.1.0;
     }
 
-row_bytes : (m : Meaning) (voices : List ℕ) (rows : List RowData) (bs r : List ℕ) → RowHere m voices rows bs r → Bytes bs → (Bytes r) × (encode (decode m r) ≡ r) × (r ++ drop (length r) bs ≡ bs)
+row_bytes : (m : Meaning) (voices : List ℕ) (rows : List RowData) (bs r : List ℕ) → RowHere m voices rows bs r → Bytes bs → (Bytes r) × (encode (decode m r) ≡ r) × (r ++ drop (length r) bs ≡ bs) × LaidOut m (decode m r)
 row_bytes m voices rows bs r h b =
-    let f : Bytes r = subst Bytes (sym h.front) (bytes_front (length r) bs b) in (
-      f,
-      ((bytes_both_ways m).1 r f (row_layout m (begun voices rows) r h.passes)).1,
-      ap (λ (x : List ℕ). x ++ drop (length r) bs) h.front ∙ take-append-drop (length r) bs,
-    )
+    let f : Bytes r = subst Bytes (sym h.front) (bytes_front (length r) bs b) in
+    let back = (bytes_both_ways m).1 r f (row_layout m (begun voices rows) r h.passes) in
+    (f, back.1, ap (λ (x : List ℕ). x ++ drop (length r) bs) h.front ∙ take-append-drop (length r) bs, back.0)
 
 -- ---- reading on
 
@@ -132,8 +132,8 @@ module _ (m : Meaning) (L : Laws m) (whole : List ℕ) (h : List (Call × Answer
       → ReadSo m whole h w (at + length r) voices (rows ++ (decode m r ∷ [])) (drop (length r) bs)
   one_row at voices rows bs r R V =
       let d = decode m r in
-      let more = records_row voices rows d in
       let b = row_bytes m voices rows bs r V R.bytes in
+      let more = records_row voices rows d ∙ ap (λ (x : List ℕ). records voices rows ++ x) (row_same m d b.3) in
       let before = posted_after (declared_after h voices) rows in
       let same : (post r, done) ∷ before ≡ posted_after (declared_after h voices) (rows ++ (d ∷ [])) =
       ap (λ (x : List ℕ). (post x, done) ∷ before) (sym b.1) ∙ sym (posted_push (declared_after h voices) rows d) in

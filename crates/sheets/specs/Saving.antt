@@ -1,4 +1,6 @@
 -- What Save answers and writes.
+use Rattle.rows.specs.declared.bank.Bank as bank
+use Rattle.stores.specs.declared.store.Store as store
 use Rattle.std.specs.Prelude.{◌≡◌, ℕ, cond, List, ◌++◌, length, drop, Ok, Err, Result, nat_le}
 use Rattle.rows.specs.Rows.{Meaning}
 use Rattle.stores.specs.Stores.{View}
@@ -13,9 +15,9 @@ use Rattle.sheets.specs.Sheets.{sheet}
 use Rattle.sheets.specs.Reading.{read_sheet}
 use Rattle.sheets.specs.Reading.Outcome.{accepted}
 
-module _ {B S : Type 0} where
+module _ {B S : Type 0} {b : bank.Ghosts B} {s : store.Ghosts S} where
   -- the sheet of the table's voices and rows
-  abbrev pub sheet_of : Table B S → List ℕ
+  abbrev pub sheet_of : Table B S b s → List ℕ
   sheet_of t = sheet (model t 0).voices (model t 0).rows
 
 -- Whatever the calls were that led to the table t and the store v: its sheet is accepted by Load, and gives back exactly its voices and rows.

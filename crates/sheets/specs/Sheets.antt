@@ -1,7 +1,7 @@
 -- A sheet, a table's voices and rows as bytes: for each voice hex 56 and its opening set in 8 bytes, low byte first; then the rows; then hex 5A.
 use Rattle.std.specs.Prelude.{ℕ, zero, suc, ◌+◌, ◌*◌, ◌/◌, ◌%◌, List, [], ◌∷◌, ◌++◌}
 use Rattle.rows.specs.Rows.{RowData}
-use Rattle.rows.specs.Bytes.{encode}
+use Rattle.writing.specs.WrittenRows.{written_row}
 
 -- a number in so many bytes, low byte first
 abbrev pub low_first : ℕ → ℕ → List ℕ
@@ -24,7 +24,7 @@ voice_records (s ∷ voices) = voice_record s ++ voice_records voices
 
 abbrev pub row_records : List RowData → List ℕ
 row_records [] = []
-row_records (r ∷ rows) = encode r ++ row_records rows
+row_records (r ∷ rows) = written_row r ++ row_records rows
 
 abbrev pub records : List ℕ → List RowData → List ℕ
 records voices rows = voice_records voices ++ row_records rows

@@ -1,6 +1,6 @@
 // Tables saved as sheets. Each part is written from a place on, and the place behind it is answered.
 ghost use Rattle.std.specs.Prelude.{◌≡◌, ◌+◌, ◌^◌, ◌<◌, [], ◌∷◌, length};
-ghost use Rattle.rows.specs.Bytes.{encode, member_bytes};
+ghost use Rattle.writing.specs.WrittenRows.{written_row, written_members};
 ghost use Rattle.rows.specs.Views.{row_of, rows_of};
 ghost use Rattle.writing.specs.Written.{Piece};
 ghost use Rattle.planner.specs.Shown.{model, store_in};
@@ -41,7 +41,7 @@ fn write_voices(voices: &[ValueSet], out: &mut [u8], from: usize) -> usize
 // A member: its mark, the low byte of its voice, and its argument.
 fn write_member(member: Member, out: &mut [u8], at: usize) -> usize
     requires { at + 4 < 2 ^ 64 }
-    ensures { Piece at (member_bytes (member ∷ [])) out.old out.new result }
+    ensures { Piece at (written_members (member ∷ [])) out.old out.new result }
 {
     let [voice, _] = member.voice.to_le_bytes();
     let [low, high] = member.argument.to_le_bytes();
@@ -50,8 +50,8 @@ fn write_member(member: Member, out: &mut [u8], at: usize) -> usize
 }
 
 fn write_members(members: &[Member], out: &mut [u8], from: usize) -> usize
-    requires { from + length (member_bytes members.now) < 2 ^ 64 }
-    ensures { Piece from (member_bytes members.now) out.old out.new result }
+    requires { from + length (written_members members.now) < 2 ^ 64 }
+    ensures { Piece from (written_members members.now) out.old out.new result }
 {
     let mut at = from;
     for member in members {
@@ -61,8 +61,8 @@ fn write_members(members: &[Member], out: &mut [u8], from: usize) -> usize
 }
 
 fn write_row(row: &Row, out: &mut [u8], at: usize) -> usize
-    requires { at + length (encode (row_of row.now)) < 2 ^ 64 }
-    ensures { Piece at (encode (row_of row.now)) out.old out.new result }
+    requires { at + length (written_row (row_of row.now)) < 2 ^ 64 }
+    ensures { Piece at (written_row (row_of row.now)) out.old out.new result }
 {
     let body = row.body();
     put(out, at, &[row.letter()]);

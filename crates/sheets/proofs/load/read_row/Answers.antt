@@ -1,4 +1,4 @@
-use Rattle.std.proofs.Common.{◌≡◌, ℕ, List, length, Some, Ok, Err, sym, ap, ◌∙◌, subst}
+use Rattle.std.proofs.Common.{ℕ, List, length, Some, Ok, Err, ap, ◌∙◌, subst}
 use Rattle.std.proofs.lemmas.Result.{err_from_is_err_and}
 use Rattle.search.specs.Calls.{begun, judged}
 use Rattle.search.specs.Calls.Call.{post}
@@ -9,18 +9,18 @@ use Rattle.sheets.specs.Loading.{ItemRead}
 use Rattle.sheets.proofs.Steps.{row_posted, row_declined}
 use Rattle.sheets.proofs.load.read_row.Goals as goal
 
-pub returns-in-err-post : goal.returns-in-err-post
-returns-in-err-post g c =
+pub returns-in_err-post : goal.returns-in_err-post
+returns-in_err-post g c =
     let m = g.B.Bank.meaning in
     let t = c.args.table.now in
     let u = c.post.new.self in
     let v = store_in g.S.Store.view t in
     let w = store_in g.S.Store.view u in
-    let r = c.from-residual.result in
-    let p = err_from_is_err_and r c.from-residual.ensures.1 in
-    let d = c.in-err-post.ensures.does in
-    subst (λ (x : List ℕ). ItemRead m (model t 0) (if_passes (judged m (begun (model t 0).voices (model t 0).rows) (post x)) (row x)) r (model u 0) w) c.front-row-row.ensures
-    (row_declined m (model t 0) (model u (d.lost 0)) v w c.front-row-row.result.now r c.in-err-post.field-0.0 c.requires (p.1 ∙ ap Err p.2) (d.does 0))
+    let r = c.from_residual.result in
+    let p = err_from_is_err_and r c.from_residual.ensures.1 in
+    let d = c.in_err-post.ensures.does in
+    subst (λ (x : List ℕ). ItemRead m (model t 0) (if_passes (judged m (begun (model t 0).voices (model t 0).rows) (post x)) (row x)) r (model u 0) w) c.front_row-row.ensures
+    (row_declined m (model t 0) (model u (d.lost 0)) v w c.front_row-row.result.now r c.in_err-post.field-0.0 c.requires (p.1 ∙ ap Err p.2) (d.does 0))
 
 pub returns : goal.returns
 returns g c =
@@ -29,7 +29,7 @@ returns g c =
     let u = c.post.new.self in
     let v = store_in g.S.Store.view t in
     let w = store_in g.S.Store.view u in
-    let d = c.in-ok-post.ensures.does in
-    subst (λ (x : List ℕ). ItemRead m (model t 0) (if_passes (judged m (begun (model t 0).voices (model t 0).rows) (post x)) (row x)) (Ok (Some (length c.front-row-row.result.now))) (model u 0) w)
-    c.front-row-row.ensures
-    (row_posted m (model t 0) (model u (d.lost 0)) v w c.front-row-row.result.now (d.does 0))
+    let d = c.in_ok-post.ensures.does in
+    subst (λ (x : List ℕ). ItemRead m (model t 0) (if_passes (judged m (begun (model t 0).voices (model t 0).rows) (post x)) (row x)) (Ok (Some (length c.front_row-row.result.now))) (model u 0) w)
+    c.front_row-row.ensures
+    (row_posted m (model t 0) (model u (d.lost 0)) v w c.front_row-row.result.now (d.does 0))

@@ -6,7 +6,7 @@ use Rattle.rows.specs.Views.{row_of}
 use Rattle.search.specs.Calls.{begun, judged}
 use Rattle.search.specs.Calls.Call.{declare}
 use Rattle.planner.specs.Shown.{model, store_in, rows_in}
-use Rattle.sheets.specs.declared.fault.Cause.TheVariants.{LateVoice, CutVoice, Declined}
+use Rattle.sheets.specs.declared.fault.Cause.TheVariants.{LateVoice, CutVoice}
 use Rattle.sheets.specs.declared.fault.Layer.TheVariants.{Sheet}
 use Rattle.sheets.specs.Sheets.{number_in}
 use Rattle.sheets.specs.Reading.{voice_item, if_passes}
@@ -16,43 +16,43 @@ use Rattle.sheets.proofs.Items.{late_voice, cut_voice, whole_voice}
 use Rattle.sheets.proofs.Steps.{at_item, voice_declared, voice_declined}
 use Rattle.sheets.proofs.load.read_voice.Goals as goal
 
-pub returns-then-not-is-empty : goal.returns-then-not-is-empty
-returns-then-not-is-empty g c =
+pub returns-then-not-is_empty : goal.returns-then-not-is_empty
+returns-then-not-is_empty g c =
     let m = g.B.Bank.meaning in
     let t = c.args.table.now in
     let bs = c.args.rest.now in
-    let some : length (rows_in t) ≡ 0 → ⊥ = λ z. eqb-false (length c.rows.result.now) 0 (sym c.if-not-is-empty.ensures) (sym (length-map c.rows.result.now row_of) ∙ ap length c.rows.ensures ∙ z) in
+    let some : length (rows_in t) ≡ 0 → ⊥ = λ z. eqb-false (length c.rows.result.now) 0 (sym c.if-not-is_empty.ensures) (sym (length-map c.rows.result.now row_of) ∙ ap length c.rows.ensures ∙ z) in
     at_item m (model t 0) (model t 0) (store_in g.S.Store.view t) (fault 3 0 Sheet) (voice_item m (vec_items t.voices) (rows_in t) bs) (Err LateVoice)
     (late_voice m (vec_items t.voices) (rows_in t) bs some)
     (record { step = refl; table = c.requires.begins; store = c.requires.holds })
 
-pub returns-in-default : goal.returns-in-default
-returns-in-default g c =
+pub returns-in_default : goal.returns-in_default
+returns-in_default g c =
     let m = g.B.Bank.meaning in
     let t = c.args.table.now in
     let bs = c.args.rest.now in
-    let none : length (rows_in t) ≡ 0 = sym (ap length c.rows.ensures) ∙ length-map c.rows.result.now row_of ∙ eqb-true (length c.rows.result.now) 0 (sym c.if-not-is-empty.ensures) in
+    let none : length (rows_in t) ≡ 0 = sym (ap length c.rows.ensures) ∙ length-map c.rows.result.now row_of ∙ eqb-true (length c.rows.result.now) 0 (sym c.if-not-is_empty.ensures) in
     let short : length bs < 8 = omega (arith, ltb-true, ltb-false) in
     at_item m (model t 0) (model t 0) (store_in g.S.Store.view t) (fault 6 0 Sheet) (voice_item m (vec_items t.voices) (rows_in t) bs) (Err CutVoice)
     (cut_voice m (vec_items t.voices) (rows_in t) bs none short)
     (record { step = refl; table = c.requires.begins; store = c.requires.holds })
 
-pub returns-in-err-declare : goal.returns-in-err-declare
-returns-in-err-declare g c =
+pub returns-in_err-declare : goal.returns-in_err-declare
+returns-in_err-declare g c =
     let m = g.B.Bank.meaning in
     let t = c.args.table.now in
     let u = c.declare.new.self in
     let v = store_in g.S.Store.view t in
     let w = store_in g.S.Store.view u in
     let bs = c.args.rest.now in
-    let s = c.from-le-bytes.result in
-    let r = c.from-residual.result in
-    let refusal = c.in-err-declare.field-0.0 in
-    let p = err_from_is_err_and r c.from-residual.ensures.1 in
-    let d = c.in-err-declare.ensures.does in
-    let none : length (rows_in t) ≡ 0 = sym (ap length c.rows.ensures) ∙ length-map c.rows.result.now row_of ∙ eqb-true (length c.rows.result.now) 0 (sym c.if-not-is-empty.ensures) in
+    let s = c.from_le_bytes.result in
+    let r = c.from_residual.result in
+    let refusal = c.in_err-declare.field-0.0 in
+    let p = err_from_is_err_and r c.from_residual.ensures.1 in
+    let d = c.in_err-declare.ensures.does in
+    let none : length (rows_in t) ≡ 0 = sym (ap length c.rows.ensures) ∙ length-map c.rows.result.now row_of ∙ eqb-true (length c.rows.result.now) 0 (sym c.if-not-is_empty.ensures) in
     let long : 8 ≤ length bs = omega (arith, ltb-true, ltb-false) in
-    let number : number_in (take 8 bs) ≡ s = eight_bytes bs long ∙ sym c.from-le-bytes.ensures in
+    let number : number_in (take 8 bs) ≡ s = eight_bytes bs long ∙ sym c.from_le_bytes.ensures in
     at_item m (model t 0) (model u 0) w (if_passes (judged m (begun (vec_items t.voices) (rows_in t)) (declare s)) (voice s)) (voice_item m (vec_items t.voices) (rows_in t) bs) r
     (whole_voice m (vec_items t.voices) (rows_in t) bs s none long number)
     (voice_declined m (model t 0) (model u (d.lost 0)) v w s r refusal c.requires (p.1 ∙ ap Err p.2) (d.does 0))
@@ -65,11 +65,11 @@ returns g c =
     let v = store_in g.S.Store.view t in
     let w = store_in g.S.Store.view u in
     let bs = c.args.rest.now in
-    let s = c.from-le-bytes.result in
-    let d = c.in-ok-declare.ensures.does in
-    let none : length (rows_in t) ≡ 0 = sym (ap length c.rows.ensures) ∙ length-map c.rows.result.now row_of ∙ eqb-true (length c.rows.result.now) 0 (sym c.if-not-is-empty.ensures) in
+    let s = c.from_le_bytes.result in
+    let d = c.in_ok-declare.ensures.does in
+    let none : length (rows_in t) ≡ 0 = sym (ap length c.rows.ensures) ∙ length-map c.rows.result.now row_of ∙ eqb-true (length c.rows.result.now) 0 (sym c.if-not-is_empty.ensures) in
     let long : 8 ≤ length bs = omega (arith, ltb-true, ltb-false) in
-    let number : number_in (take 8 bs) ≡ s = eight_bytes bs long ∙ sym c.from-le-bytes.ensures in
+    let number : number_in (take 8 bs) ≡ s = eight_bytes bs long ∙ sym c.from_le_bytes.ensures in
     at_item m (model t 0) (model u 0) w (if_passes (judged m (begun (vec_items t.voices) (rows_in t)) (declare s)) (voice s)) (voice_item m (vec_items t.voices) (rows_in t) bs) (Ok (Some 9))
     (whole_voice m (vec_items t.voices) (rows_in t) bs s none long number)
     (voice_declared m (model t 0) (model u (d.lost 0)) v w s (d.does 0))

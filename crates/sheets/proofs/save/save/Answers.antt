@@ -1,4 +1,4 @@
-use Rattle.std.proofs.Common.{◌≡◌, ℕ, ◌+◌, ◌*◌, ◌<◌, ◌≤◌, List, length, vec_items, sym, ap, ◌∙◌, ap₂, arith}
+use Rattle.std.proofs.Common.{◌≡◌, ℕ, ◌+◌, ◌*◌, ◌<◌, ◌≤◌, List, length, vec_items, ap, ◌∙◌, ap₂, arith}
 use Rattle.rows.specs.Rows.{RowData}
 use Rattle.rows.specs.Views.{rows_of}
 use Rattle.planner.specs.Shown.{model, store_in, rows_in}
@@ -15,43 +15,43 @@ returns-then-out-length g c =
     let t = c.args.table.now in
     let long = sheet_length (vec_items t.voices) (rows_in t) in
     let short : length c.args.out.now < length (sheet_of c.args.table.now) =
-    omega (arith, c.if-out-length.true, long, ap length c.voices.ensures.value, c.row-bytes.ensures.value) in
+    omega (arith, c.if-out-length.true, long, ap length c.voices.ensures.value, c.row_bytes.ensures.value) in
     record {
       value = short_answer (sheet_of t) c.args.out.now short;
       after = short_after (sheet_of t) c.args.out.now short;
       again = λ h j H. saves_again g.B.Bank.meaning g.met.B.Bank.lawful (model t j) (store_in g.S.Store.view t) h H;
     }
 
-pub write-voices-rows-requires : goal.write-voices-rows-requires
-write-voices-rows-requires g c = omega (arith, voices_length c.voices-2.result.now, c.voices-2.ensures.bound)
+pub write_voices-rows-requires : goal.write_voices-rows-requires
+write_voices-rows-requires g c = omega (arith, voices_length c.voices-2.result.now, c.voices-2.ensures.bound)
 
-pub write-rows-end-requires : goal.write-rows-end-requires
-write-rows-end-requires g c =
+pub write_rows-end-requires : goal.write_rows-end-requires
+write_rows-end-requires g c =
     omega (
       arith,
-      c.write-voices-rows.ensures.place,
+      c.write_voices-rows.ensures.place,
       voices_length c.voices-2.result.now,
       c.voices-2.ensures.bound,
       rows_length (rows_of c.rows.result.now),
       ap (λ (l : List RowData). length (row_records l)) c.rows.ensures,
       rows_length (rows_in c.args.table.now),
-      c.row-bytes.ensures.value,
-      c.row-bytes.ensures.bound,
+      c.row_bytes.ensures.value,
+      c.row_bytes.ensures.bound,
     )
 
 pub returns : goal.returns
 returns g c =
     let t = c.args.table.now in
     let out = c.args.out.now in
-    let long : 9 * length c.voices.result.now + c.row-bytes.result + 1 ≡ length (sheet_of c.args.table.now) =
-    omega (arith, sheet_length (vec_items c.args.table.now.voices) (rows_in c.args.table.now), ap length c.voices.ensures.value, c.row-bytes.ensures.value) in
+    let long : 9 * length c.voices.result.now + c.row_bytes.result + 1 ≡ length (sheet_of c.args.table.now) =
+    omega (arith, sheet_length (vec_items c.args.table.now.voices) (rows_in c.args.table.now), ap length c.voices.ensures.value, c.row_bytes.ensures.value) in
     let fits : length (sheet_of c.args.table.now) ≤ length c.args.out.now = omega (arith, long, c.if-out-length.false) in
     let bytes : c.put.new.out ≡ written 0 (sheet_of c.args.table.now) c.args.out.now =
-    sheet_pieces c.voices-2.result.now (rows_of c.rows.result.now) c.write-voices-rows.result c.write-rows-end.result out c.write-voices-rows.new.out c.write-rows-end.new.out c.put.new.out
-    c.write-voices-rows.ensures c.write-rows-end.ensures c.put.ensures
+    sheet_pieces c.voices-2.result.now (rows_of c.rows.result.now) c.write_voices-rows.result c.write_rows-end.result out c.write_voices-rows.new.out c.write_rows-end.new.out c.put.new.out
+    c.write_voices-rows.ensures c.write_rows-end.ensures c.put.ensures
     ∙ ap₂ (λ (v : List ℕ) (r : List RowData). written 0 (sheet v r) c.args.out.now) c.voices-2.ensures.value c.rows.ensures in
     record {
-      value = saved_answer (sheet_of t) out (9 * length c.voices.result.now + c.row-bytes.result + 1) long fits;
+      value = saved_answer (sheet_of t) out (9 * length c.voices.result.now + c.row_bytes.result + 1) long fits;
       after = saved_after (sheet_of t) out c.put.new.out bytes fits;
       again = λ h j H. saves_again g.B.Bank.meaning g.met.B.Bank.lawful (model t j) (store_in g.S.Store.view t) h H;
     }

@@ -11,15 +11,15 @@ use Rattle.sheets.proofs.save.write_rows.Goals as goal
 pub loop-row-init : goal.loop-row-init
 loop-row-init c = piece_none c.args.from c.args.out.now
 
-pub write-row-at-requires : goal.write-row-at-requires
-write-row-at-requires c =
+pub write_row-at-requires : goal.write_row-at-requires
+write_row-at-requires c =
     row_inside c.args.rows.now c.loop-row.row-index c.args.from c.loop-row.at (2 ^ 64) c.row-item.result c.args.out.now c.loop-row.out c.loop-row-test.true c.row-item.is
     c.loop-row.invariant c.requires
 
 pub loop-row-preserved : goal.loop-row-preserved
 loop-row-preserved c =
-    row_more c.args.rows.now c.loop-row.row-index c.args.from c.loop-row.at c.write-row-at.result c.row-item.result c.args.out.now c.loop-row.out c.write-row-at.new.out
-    c.loop-row-test.true c.row-item.is c.loop-row.invariant c.write-row-at.ensures
+    row_more c.args.rows.now c.loop-row.row-index c.args.from c.loop-row.at c.write_row-at.result c.row-item.result c.args.out.now c.loop-row.out c.write_row-at.new.out
+    c.loop-row-test.true c.row-item.is c.loop-row.invariant c.write_row-at.ensures
 
 pub returns : goal.returns
 returns c =

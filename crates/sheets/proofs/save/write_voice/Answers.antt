@@ -9,7 +9,7 @@ returns c = record {
   place = refl;
   buffer =
       c.put-2.ensures
-      ∙ ap (written (c.args.at + 1) c.to-le-bytes.result) c.put.ensures
-      ∙ written_on c.args.at (0x56 ∷ []) c.to-le-bytes.result c.args.out.now
-      ∙ ap (λ (l : List ℕ). written c.args.at (0x56 ∷ l) c.args.out.now) (c.to-le-bytes.ensures ∙ low_first_8 c.args.set);
+      ∙ ap (written (c.args.at + 1) c.to_le_bytes.result) c.put.ensures
+      ∙ written_on c.args.at (0x56 ∷ []) c.to_le_bytes.result c.args.out.now
+      ∙ ap (λ (l : List ℕ). written c.args.at (0x56 ∷ l) c.args.out.now) (c.to_le_bytes.ensures ∙ low_first_8 c.args.set);
 }

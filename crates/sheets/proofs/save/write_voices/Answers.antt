@@ -9,14 +9,14 @@ use Rattle.sheets.proofs.save.write_voices.Goals as goal
 pub loop-set-init : goal.loop-set-init
 loop-set-init c = piece_none c.args.from c.args.out.now
 
-pub write-voice-at-requires : goal.write-voice-at-requires
-write-voice-at-requires c =
+pub write_voice-at-requires : goal.write_voice-at-requires
+write_voice-at-requires c =
     voice_inside c.args.voices.now c.loop-set.set-index c.args.from c.loop-set.at (2 ^ 64) c.args.out.now c.loop-set.out c.loop-set-test.true c.loop-set.invariant c.requires
 
 pub loop-set-preserved : goal.loop-set-preserved
 loop-set-preserved c =
-    voice_more c.args.voices.now c.loop-set.set-index c.args.from c.loop-set.at c.write-voice-at.result c.args.out.now c.loop-set.out c.write-voice-at.new.out
-    c.loop-set-test.true c.loop-set.invariant c.write-voice-at.ensures
+    voice_more c.args.voices.now c.loop-set.set-index c.args.from c.loop-set.at c.write_voice-at.result c.args.out.now c.loop-set.out c.write_voice-at.new.out
+    c.loop-set-test.true c.loop-set.invariant c.write_voice-at.ensures
 
 pub returns : goal.returns
 returns c =
