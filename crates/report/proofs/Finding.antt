@@ -1,4 +1,6 @@
 -- What a Read leaves of what was found.
+use Rattle.rows.specs.declared.bank.Bank as bank
+use Rattle.stores.specs.declared.store.Store as store
 use Rattle.std.proofs.Common.{◌≡◌, ℕ, ◌≤◌, Bool, not, ltb, List, [], ◌∷◌, ◌++◌, length, take, drop, vec_items, sym, refl, ap, ◌∙◌, ap₂, arith, le-ltb}
 use Rattle.std.proofs.lemmas.List.{length-map, take_at}
 use Rattle.sets.specs.Sets.{least}
@@ -24,7 +26,7 @@ result_length Exhausted sets [] = omega arith
 result_length e sets (l ∷ levels) = omega arith
 
 -- so that there are 80 at most
-pub found_few : {B S : Type 0} (t : tables.Table B S) → length (found_in t) ≤ 80
+pub found_few : {B S : Type 0} {b : bank.Ghosts B} {s : store.Ghosts S} (t : tables.Table B S b s) → length (found_in t) ≤ 80
 found_few t = omega (arith, result_length t.search.end (vec_items t.search.sets) (levels_of t.search), t.search.few, t.search.sets.ok.0)
 
 -- a Read that passes has written the values

@@ -7,7 +7,7 @@ use Rattle.engine.specs.Searches.{outcome_of}
 use Rattle.sheets.specs.declared.fault.Layer.{Layer}
 use Rattle.sheets.specs.declared.fault.Layer.TheVariants as layer
 use Rattle.sheets.specs.Loading.{LoadAnswer}
-use Rattle.sheets.specs.Loading.Load-answer.{loaded, declined}
+use Rattle.sheets.specs.Loading.LoadAnswer.{loaded, declined}
 
 -- what ends a line
 abbrev pub line_end : List ℕ

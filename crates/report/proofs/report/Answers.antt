@@ -1,4 +1,4 @@
-use Rattle.std.proofs.Common.{◌≤◌, length, ◌∙◌, zero-add, arith}
+use Rattle.std.proofs.Common.{◌≤◌, length, arith}
 use Rattle.planner.specs.Shown.{model}
 use Rattle.sheets.specs.Loading.{load_answer}
 use Rattle.sheets.proofs.SavedBytes.{saved_answer, saved_after}
@@ -8,9 +8,9 @@ use Rattle.report.proofs.report.Goals as goal
 pub returns : goal.returns
 returns g c =
     let text = report_text (load_answer c.args.answer) (model c.args.table.now 0) in
-    let long = c.report-length-length.ensures in
+    let long = c.report_length-length.ensures in
     let fits : length (report_text (load_answer c.args.answer) (model c.args.table.now 0)) ≤ length c.args.out.now = omega (arith, long, c.if-out-length.false) in
     record {
-      value = saved_answer text c.args.out.now c.report-length-length.result long fits;
-      after = saved_after text c.args.out.now c.write-report.new.out c.write-report.ensures.buffer fits;
+      value = saved_answer text c.args.out.now c.report_length-length.result long fits;
+      after = saved_after text c.args.out.now c.write_report.new.out c.write_report.ensures.buffer fits;
     }

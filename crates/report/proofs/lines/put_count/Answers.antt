@@ -3,17 +3,17 @@ use Rattle.writing.proofs.Places.{both}
 use Rattle.report.proofs.Lengths.{count_line_length}
 use Rattle.report.proofs.lines.put_count.Goals as goal
 
-pub put-text-at-requires : goal.put-text-at-requires
-put-text-at-requires c = omega (arith, c.requires, count_line_length c.args.name.now c.args.count)
+pub put_text-at-requires : goal.put_text-at-requires
+put_text-at-requires c = omega (arith, c.requires, count_line_length c.args.name.now c.args.count)
 
-pub put-text-at-requires-2 : goal.put-text-at-requires-2
-put-text-at-requires-2 c = omega (arith, c.requires, count_line_length c.args.name.now c.args.count)
+pub put_text-at-requires-2 : goal.put_text-at-requires-2
+put_text-at-requires-2 c = omega (arith, c.requires, count_line_length c.args.name.now c.args.count)
 
-pub put-number-at-requires : goal.put-number-at-requires
-put-number-at-requires c = omega (arith, c.requires, count_line_length c.args.name.now c.args.count)
+pub put_number-at-requires : goal.put_number-at-requires
+put_number-at-requires c = omega (arith, c.requires, count_line_length c.args.name.now c.args.count)
 
-pub put-end-requires : goal.put-end-requires
-put-end-requires c = omega (arith, c.requires, count_line_length c.args.name.now c.args.count)
+pub put_end-requires : goal.put_end-requires
+put_end-requires c = omega (arith, c.requires, count_line_length c.args.name.now c.args.count)
 
 pub returns : goal.returns
-returns c = both c.put-text-at.ensures (both c.put-text-at-2.ensures (both c.put-number-at.ensures c.put-end.ensures))
+returns c = both c.put_text-at.ensures (both c.put_text-at-2.ensures (both c.put_number-at.ensures c.put_end.ensures))

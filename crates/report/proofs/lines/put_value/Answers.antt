@@ -3,17 +3,17 @@ use Rattle.writing.proofs.Places.{both}
 use Rattle.report.proofs.Lengths.{value_line_length}
 use Rattle.report.proofs.lines.put_value.Goals as goal
 
-pub put-number-at-requires : goal.put-number-at-requires
-put-number-at-requires c = omega (arith, c.requires, value_line_length c.args.voice c.args.value)
+pub put_number-at-requires : goal.put_number-at-requires
+put_number-at-requires c = omega (arith, c.requires, value_line_length c.args.voice c.args.value)
 
-pub put-text-at-requires : goal.put-text-at-requires
-put-text-at-requires c = omega (arith, c.requires, value_line_length c.args.voice c.args.value)
+pub put_text-at-requires : goal.put_text-at-requires
+put_text-at-requires c = omega (arith, c.requires, value_line_length c.args.voice c.args.value)
 
-pub put-number-at-requires-2 : goal.put-number-at-requires-2
-put-number-at-requires-2 c = omega (arith, c.requires, value_line_length c.args.voice c.args.value)
+pub put_number-at-requires-2 : goal.put_number-at-requires-2
+put_number-at-requires-2 c = omega (arith, c.requires, value_line_length c.args.voice c.args.value)
 
-pub put-end-requires : goal.put-end-requires
-put-end-requires c = omega (arith, c.requires, value_line_length c.args.voice c.args.value)
+pub put_end-requires : goal.put_end-requires
+put_end-requires c = omega (arith, c.requires, value_line_length c.args.voice c.args.value)
 
 pub returns : goal.returns
-returns c = both c.put-number-at.ensures (both c.put-text-at.ensures (both c.put-number-at-2.ensures c.put-end.ensures))
+returns c = both c.put_number-at.ensures (both c.put_text-at.ensures (both c.put_number-at-2.ensures c.put_end.ensures))

@@ -1,0 +1,35 @@
+use Rattle.std.proofs.Common.{◌≡◌, ◌-◌, min, [], length, take, arith, refl, sym, ap, ◌∙◌, subst}
+use Rattle.std.proofs.lemmas.Result.{IfOk-weaker}
+use Rattle.planner.specs.Shown.{model, store_in, solve_answer, found_in}
+use Rattle.sheets.specs.Loading.{load_answer}
+use Rattle.sheets.specs.Reading.{read_sheet}
+use Rattle.report.specs.Texts.{report_text}
+use Rattle.planning.specs.Planned.{Planned}
+use Rattle.planning.proofs.Jobs.{sheet_front, same_report, solved_job, declined_job}
+use Rattle.planning.proofs.plan.Goals as goal
+use Rattle.planning.proofs.plan.Goals.{then-is_ok, else-is_ok}
+
+pub returns : goal.returns
+returns g c =
+    let m = g.B.Bank.meaning in
+    let view = g.S.Store.view in
+    let n = c.min-length.result - 0 in
+    let few : n ≡ min (length c.args.sheet.now) 20000 = omega (arith, c.min-length.ensures) in
+    let sheet = take n c.args.sheet.now in
+    let r = c.load-answer.result in
+    let t = c.load-answer.new.table in
+    let history = c.load-answer.ensures.lasts.history [] 0 c.in_ok-table.ensures in
+    IfOk-weaker c.written_report.result _ _ (λ text h.
+    subst (λ x. Planned m x text.items) (sheet_front c.args.sheet.now n few)
+    (elim c.if-is_ok.branch [
+      | then-is_ok w ↦
+          let u = w.solve.new.self in
+          let d = w.solve.ensures.does in
+          solved_job m g.met.B.Bank.lawful sheet text.items (read_sheet m sheet) r (model t 0) (model u (d.lost 0)) (store_in view t) (store_in view u)
+          (solve_answer w.solve.result (found_in u)) (sym c.is_ok.ensures.value ∙ w.if-is_ok.true) c.load-answer.ensures.value refl c.load-answer.ensures.after history (d.does 0)
+          (h ∙ ap (λ x. report_text (load_answer r) (model x 0)) w.table-is ∙ same_report (load_answer r) (model u 0) (model u (d.lost 0)) refl)
+      | else-is_ok w ↦
+          declined_job m g.met.B.Bank.lawful sheet text.items (read_sheet m sheet) r (model t 0) (store_in view t)
+          (sym c.is_ok.ensures.value ∙ w.if-is_ok.false) c.load-answer.ensures.value refl history
+          (h ∙ ap (λ x. report_text (load_answer r) (model x 0)) w.table-is)
+    ])) c.written_report.ensures
