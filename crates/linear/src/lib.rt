@@ -5,7 +5,7 @@ ghost use Rattle.std.specs.Prelude.{◌≡◌, ◌*◌, ◌^◌, map, length, ta
 ghost use Rattle.sets.specs.Sets.{mask};
 ghost use Rattle.sets.specs.Placings.{all};
 ghost use Rattle.rows.specs.Views.{row_of};
-ghost use Rattle.linear.specs.Sums.{bound as bound_of, low, high, placed as Placed-of, total, linear_rule, linear, Near};
+ghost use Rattle.linear.specs.Sums.{bound as bound_of, low, high, placed as placed_of, total, linear_rule, linear, Near};
 ghost use Rattle.linear.specs.SumsLaws.{linear_lawful};
 
 use narrowing::{are_declared, is_shaped, judge, keep_only, set_of};
@@ -70,7 +70,7 @@ fn highest(member: Member, sets: &[ValueSet]) -> i64
 
 // What a member adds where it is fixed, 0 where it is not.
 fn placed(member: Member, sets: &[ValueSet]) -> i64
-    ensures value { result ≡ Placed-of sets.now member }
+    ensures value { result ≡ placed_of sets.now member }
     ensures near { Near (32768 * 64) result }
 {
     let set = set_of(sets, member.voice);
@@ -131,7 +131,7 @@ fn total_highest(row: &Row, sets: &[ValueSet]) -> i64
 
 // The sum of what the fixed members add.
 fn total_placed(row: &Row, sets: &[ValueSet]) -> i64
-    ensures value { result ≡ total (Placed-of sets.now) (row_of row.now).members }
+    ensures value { result ≡ total (placed_of sets.now) (row_of row.now).members }
     ensures near { Near (32 * 32768 * 64) result }
 {
     let mut sum = 0;
