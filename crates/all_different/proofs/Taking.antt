@@ -7,7 +7,8 @@ use Rattle.std.proofs.lemmas.Nat.{or_lt}
 use Rattle.std.proofs.lemmas.List.{take_more, at_drop_more}
 use Rattle.std.proofs.lemmas.Bool.{both_ways, eq-eqb, ne_eqb, or_left, or_right}
 use Rattle.rows.specs.declared.member.Member.{Member}
-use Rattle.sets.specs.Placings.{all, any, changed}
+use Rattle.sets.specs.Placings.{changed}
+use Rattle.std.specs.List.{list_all, list_any}
 use Rattle.sets.specs.Sets.{has, fixed, least}
 use Rattle.all_different.specs.Differing.{spares, takes, used, all_placed}
 use Rattle.narrowing.specs.Shared.{at, cut, cuts, distinct, settled, open_with}
@@ -94,13 +95,13 @@ takes_flag f ms rest s u t b r h a c p q =
 
 -- ---- the values of the fixed members
 
-any_push : {A : Type 0} (f : A → Bool) (xs : List A) (x : A) → any f (xs ++ (x ∷ [])) ≡ (any f xs || f x)
+any_push : {A : Type 0} (f : A → Bool) (xs : List A) (x : A) → list_any f (xs ++ (x ∷ [])) ≡ (list_any f xs || f x)
 any_push f [] x = or_none (f x)
   where
     or_none : (b : Bool) → (b || false) ≡ b
     or_none true = refl
     or_none false = refl
-any_push f (y ∷ xs) x = ap (λ (b : Bool). f y || b) (any_push f xs x) ∙ grouped (f y) (any f xs) (f x)
+any_push f (y ∷ xs) x = ap (λ (b : Bool). f y || b) (any_push f xs x) ∙ grouped (f y) (list_any f xs) (f x)
   where
     grouped : (a b c : Bool) → (a || (b || c)) ≡ ((a || b) || c)
     grouped true b c = refl
@@ -111,13 +112,13 @@ abbrev gives : List ℕ → ℕ → Member → Bool
 gives s v m = fixed (at s m) && eqb v (least (at s m))
 
 pub used_none : (s : List ℕ) → 0 ≡ used [] s
-used_none s = none_mask (λ v. any (gives s v) []) (λ v l. refl)
+used_none s = none_mask (λ v. list_any (gives s v) []) (λ v l. refl)
 
 used_below : (ms : List Member) (s : List ℕ) → used ms s < 2 ^ 64
-used_below ms s = mask_below 64 (λ v. any (gives s v) ms)
+used_below ms s = mask_below 64 (λ v. list_any (gives s v) ms)
 
 used_push : (ms : List Member) (m : Member) (s : List ℕ) → Small s → cond (fixed (at s m)) (bit_or (used ms s) (at s m)) (used ms s) ≡ used (ms ++ (m ∷ [])) s
-used_push ms m s h = mask_is (cond (fixed (at s m)) (bit_or (used ms s) (at s m)) (used ms s)) (λ v. any (gives s v) (ms ++ (m ∷ [])))
+used_push ms m s h = mask_is (cond (fixed (at s m)) (bit_or (used ms s) (at s m)) (used ms s)) (λ v. list_any (gives s v) (ms ++ (m ∷ [])))
     (below (fixed (at s m))) (λ v l. here v l (fixed (at s m)) refl ∙ sym (any_push (gives s v) ms m))
   where
     below : (b : Bool) → cond b (bit_or (used ms s) (at s m)) (used ms s) < 2 ^ 64
@@ -128,9 +129,9 @@ used_push ms m s h = mask_is (cond (fixed (at s m)) (bit_or (used ms s) (at s m)
     or_none true = refl
     or_none false = refl
 
-    here : (v : ℕ) → v < 64 → (b : Bool) → fixed (at s m) ≡ b → has (cond b (bit_or (used ms s) (at s m)) (used ms s)) v ≡ (any (gives s v) ms || (b && eqb v (least (at s m))))
-    here v l true e = has_or (used ms s) (at s m) v ∙ ap₂ ◌||◌ (has_mask 64 (λ v. any (gives s v) ms) v l) (has_fixed (at s m) v (h m.voice) e)
-    here v l false e = has_mask 64 (λ v. any (gives s v) ms) v l ∙ or_none (any (gives s v) ms)
+    here : (v : ℕ) → v < 64 → (b : Bool) → fixed (at s m) ≡ b → has (cond b (bit_or (used ms s) (at s m)) (used ms s)) v ≡ (list_any (gives s v) ms || (b && eqb v (least (at s m))))
+    here v l true e = has_or (used ms s) (at s m) v ∙ ap₂ ◌||◌ (has_mask 64 (λ v. list_any (gives s v) ms) v l) (has_fixed (at s m) v (h m.voice) e)
+    here v l false e = has_mask 64 (λ v. list_any (gives s v) ms) v l ∙ or_none (list_any (gives s v) ms)
 
 -- one member more, whose set is k
 used_more : (ms : List Member) (i k u : ℕ) (s : List ℕ) → Small s → i < length ms → u ≡ used (take i ms) s → k ≡ at s (get_or ms i nobody)
@@ -153,19 +154,19 @@ abbrev placed : List Member → List ℕ → List ℕ
 placed [] s = []
 placed (m ∷ ms) s = cond (fixed (at s m)) (least (at s m) ∷ placed ms s) (placed ms s)
 
-any_placed : (ms : List Member) (s : List ℕ) (v : ℕ) → any (gives s v) ms ≡ any (eqb v) (placed ms s)
+any_placed : (ms : List Member) (s : List ℕ) (v : ℕ) → list_any (gives s v) ms ≡ list_any (eqb v) (placed ms s)
 any_placed [] s v = refl
 any_placed (m ∷ ms) s v = go (fixed (at s m)) (any_placed ms s v)
   where
-    go : (b : Bool) → any (gives s v) ms ≡ any (eqb v) (placed ms s)
-        → ((b && eqb v (least (at s m))) || any (gives s v) ms) ≡ any (eqb v) (cond b (least (at s m) ∷ placed ms s) (placed ms s))
+    go : (b : Bool) → list_any (gives s v) ms ≡ list_any (eqb v) (placed ms s)
+        → ((b && eqb v (least (at s m))) || list_any (gives s v) ms) ≡ list_any (eqb v) (cond b (least (at s m) ∷ placed ms s) (placed ms s))
     go true e = ap (λ (x : Bool). eqb v (least (at s m)) || x) e
     go false e = e
 
 used_placed : (ms : List Member) (s : List ℕ) → used ms s ≡ set_of (placed ms s)
 used_placed ms s =
     same_sets 64 (used ms s) (set_of (placed ms s)) (used_below ms s) (set_of_below (placed ms s))
-    (λ v l. has_mask 64 (λ v. any (gives s v) ms) v l ∙ any_placed ms s v ∙ sym (has_set_of (placed ms s) v l))
+    (λ v l. has_mask 64 (λ v. list_any (gives s v) ms) v l ∙ any_placed ms s v ∙ sym (has_set_of (placed ms s) v l))
 
 fixed_some : (x : ℕ) → fixed x ≡ true → 0 < x
 fixed_some zero f = absurd (both_ways (fixed zero) (ap (λ (n : ℕ). eqb n 1) ones_zero) f)
@@ -189,13 +190,13 @@ placed_most (m ∷ ms) s = go (fixed (at s m)) (placed_most ms s)
 
 -- all members are fixed, and these are their values; or there are fewer values than members
 placed_all : (ms : List Member) (s : List ℕ)
-    → ((all (λ m. fixed (at s m)) ms ≡ true) × (placed ms s ≡ map (λ m. least (at s m)) ms)) ⊎ ((all (λ m. fixed (at s m)) ms ≡ false) × (length (placed ms s) < length ms))
+    → ((list_all (λ m. fixed (at s m)) ms ≡ true) × (placed ms s ≡ map (λ m. least (at s m)) ms)) ⊎ ((list_all (λ m. fixed (at s m)) ms ≡ false) × (length (placed ms s) < length ms))
 placed_all [] s = inl (refl, refl)
 placed_all (m ∷ ms) s = go (fixed (at s m)) (placed_all ms s)
   where
-    go : (b : Bool) → ((all (λ m. fixed (at s m)) ms ≡ true) × (placed ms s ≡ map (λ m. least (at s m)) ms)) ⊎ ((all (λ m. fixed (at s m)) ms ≡ false) × (length (placed ms s) < length ms))
-        → (((b && all (λ m. fixed (at s m)) ms) ≡ true) × (cond b (least (at s m) ∷ placed ms s) (placed ms s) ≡ least (at s m) ∷ map (λ m. least (at s m)) ms))
-        ⊎ (((b && all (λ m. fixed (at s m)) ms) ≡ false) × (length (cond b (least (at s m) ∷ placed ms s) (placed ms s)) < suc (length ms)))
+    go : (b : Bool) → ((list_all (λ m. fixed (at s m)) ms ≡ true) × (placed ms s ≡ map (λ m. least (at s m)) ms)) ⊎ ((list_all (λ m. fixed (at s m)) ms ≡ false) × (length (placed ms s) < length ms))
+        → (((b && list_all (λ m. fixed (at s m)) ms) ≡ true) × (cond b (least (at s m) ∷ placed ms s) (placed ms s) ≡ least (at s m) ∷ map (λ m. least (at s m)) ms))
+        ⊎ (((b && list_all (λ m. fixed (at s m)) ms) ≡ false) × (length (cond b (least (at s m) ∷ placed ms s) (placed ms s)) < suc (length ms)))
     go true (inl k) = inl (k.0, ap (λ (l : List ℕ). least (at s m) ∷ l) k.1)
     go true (inr k) = inr (k.0, omega arith)
     go false k = inr (refl, omega (arith, placed_most ms s))
@@ -224,16 +225,16 @@ trace_open ms s u h a n =
 
 -- what is left of a list of members, one member on
 voices_more : (ms : List Member) (i : ℕ) (d : Member) → i < length ms
-    → distinct (map (λ m. m.voice) (drop i ms)) ≡ (not (any (λ m. eqb (get_or ms i d).voice m.voice) (drop (i + 1) ms)) && distinct (map (λ m. m.voice) (drop (i + 1) ms)))
+    → distinct (map (λ m. m.voice) (drop i ms)) ≡ (not (list_any (λ m. eqb (get_or ms i d).voice m.voice) (drop (i + 1) ms)) && distinct (map (λ m. m.voice) (drop (i + 1) ms)))
 voices_more ms i d h =
     at_drop_more (λ (l : List Member). distinct (map (λ m. m.voice) l)) ms i d h
     ∙ ap (λ (b : Bool). not b && distinct (map (λ m. m.voice) (drop (i + 1) ms))) (any_map (λ m. m.voice) (eqb (get_or ms i d).voice) (drop (i + 1) ms))
 
 -- a member whose voice stands no more after it is passed over, and one whose voice does decides
-pub voices_on : (ms : List Member) (i : ℕ) (d : Member) → i < length ms → any (λ m. eqb (get_or ms i d).voice m.voice) (drop (i + 1) ms) ≡ false
+pub voices_on : (ms : List Member) (i : ℕ) (d : Member) → i < length ms → list_any (λ m. eqb (get_or ms i d).voice m.voice) (drop (i + 1) ms) ≡ false
     → distinct (map (λ m. m.voice) (drop i ms)) ≡ distinct (map (λ m. m.voice) (drop (i + 1) ms))
 voices_on ms i d h e = voices_more ms i d h ∙ ap (λ (b : Bool). not b && distinct (map (λ m. m.voice) (drop (i + 1) ms))) e
 
-pub voices_stop : (ms : List Member) (i : ℕ) (d : Member) → i < length ms → any (λ m. eqb (get_or ms i d).voice m.voice) (drop (i + 1) ms) ≡ true
+pub voices_stop : (ms : List Member) (i : ℕ) (d : Member) → i < length ms → list_any (λ m. eqb (get_or ms i d).voice m.voice) (drop (i + 1) ms) ≡ true
     → distinct (map (λ m. m.voice) (drop i ms)) ≡ false
 voices_stop ms i d h e = voices_more ms i d h ∙ ap (λ (b : Bool). not b && distinct (map (λ m. m.voice) (drop (i + 1) ms))) e

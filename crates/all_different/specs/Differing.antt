@@ -1,7 +1,7 @@
 -- The kind A, hex 41: all members' values differ.
 use Rattle.std.specs.Prelude.{ℕ, Bool, cond, not, ◌&&◌, ◌||◌, List, [], ◌∷◌, map, ◌==◌, nat_eq, unsigned_abs}
 use Rattle.sets.specs.Sets.{fixed, least, mask}
-use Rattle.sets.specs.Placings.{any, all}
+use Rattle.std.specs.List.{list_all, list_any}
 use Rattle.rows.specs.declared.member.Member.{Member}
 use Rattle.rows.specs.Rows.{RowData, KindMeaning}
 use Rattle.narrowing.specs.Shared.{cuts, at, distinct, shaped, verdict, declared, settled, open_with}
@@ -17,15 +17,15 @@ takes ms (m ∷ rest) s = takes ms rest (cuts (spares m (at s m)) ms s)
 
 -- the arguments are 0 and no voice repeats
 abbrev pub differing_rule : RowData → Bool
-differing_rule r = all (λ m. nat_eq (unsigned_abs m.argument) 0) r.members && distinct (map (λ m. m.voice) r.members)
+differing_rule r = list_all (λ m. nat_eq (unsigned_abs m.argument) 0) r.members && distinct (map (λ m. m.voice) r.members)
 
 -- all members are fixed, at values that differ
 abbrev pub all_placed : List Member → List ℕ → Bool
-all_placed ms s = all (λ m. fixed (at s m)) ms && distinct (map (λ m. least (at s m)) ms)
+all_placed ms s = list_all (λ m. fixed (at s m)) ms && distinct (map (λ m. least (at s m)) ms)
 
 -- the values of the fixed members
 abbrev pub used : List Member → List ℕ → ℕ
-used ms s = mask 64 (λ v. any (λ m. fixed (at s m) && v == least (at s m)) ms)
+used ms s = mask 64 (λ v. list_any (λ m. fixed (at s m) && v == least (at s m)) ms)
 
 abbrev pub all_different : KindMeaning
 all_different = record {

@@ -8,7 +8,8 @@ use Rattle.std.proofs.lemmas.Bool.{eqb-true, eqb-false, ne_eqb, eq-eqb, cases_Bo
 use Rattle.rows.specs.Laws.{Laws}
 use Rattle.rows.specs.Rows.{alone, RowData}
 use Rattle.rows.specs.declared.member.Member.{Member}
-use Rattle.sets.specs.Placings.{all, any, some_empty, all_fixed, Proper, Within, Narrower, values}
+use Rattle.sets.specs.Placings.{some_empty, all_fixed, Proper, Within, Narrower, values}
+use Rattle.std.specs.List.{list_all, list_any}
 use Rattle.sets.specs.Sets.{has, fixed, least, mask}
 use Rattle.all_different.specs.Differing.{spares, takes, all_different, differing_rule}
 use Rattle.narrowing.specs.Shared.{at, cuts, distinct, shaped, declared, settled, open_with}
@@ -23,65 +24,65 @@ use Rattle.sets.proofs.Lists.{value_place}
 abbrev Tied : {A : Type 0} → (A → ℕ) → (A → ℕ) → List A → A → Type 0
 Tied f g xs x = Each (λ y. f y ≡ f x → g y ≡ g x) xs
 
-pub any_map : {A B : Type 0} (g : A → B) (f : B → Bool) (xs : List A) → any f (map g xs) ≡ any (λ x. f (g x)) xs
+pub any_map : {A B : Type 0} (g : A → B) (f : B → Bool) (xs : List A) → list_any f (map g xs) ≡ list_any (λ x. f (g x)) xs
 any_map g f [] = refl
 any_map g f (x ∷ xs) = ap (λ (b : Bool). f (g x) || b) (any_map g f xs)
 
-head_apart : {A : Type 0} (f : A → ℕ) (x : A) (xs : List A) → not (any (nat_eq (f x)) (map f xs)) ≡ true → Each (λ y. f x ≢ f y) xs
+head_apart : {A : Type 0} (f : A → ℕ) (x : A) (xs : List A) → not (list_any (nat_eq (f x)) (map f xs)) ≡ true → Each (λ y. f x ≢ f y) xs
 head_apart f x xs e =
     each_map (λ y. (f x == f y) ≡ false) (λ y. f x ≢ f y) xs (λ y k. eqb-false (f x) (f y) k)
-    (none_each (λ y. nat_eq (f x) (f y)) xs (sym (any_map f (nat_eq (f x)) xs) ∙ not-true (any (nat_eq (f x)) (map f xs)) e))
+    (none_each (λ y. nat_eq (f x) (f y)) xs (sym (any_map f (nat_eq (f x)) xs) ∙ not-true (list_any (nat_eq (f x)) (map f xs)) e))
 
 distinct_tied : {A : Type 0} (f g : A → ℕ) (xs : List A) → distinct (map f xs) ≡ true → Each (Tied f g xs) xs
 distinct_tied f g [] e = tt
 distinct_tied f g (x ∷ xs) e =
-    let p = and_parts (not (any (nat_eq (f x)) (map f xs))) (distinct (map f xs)) e in
+    let p = and_parts (not (list_any (nat_eq (f x)) (map f xs))) (distinct (map f xs)) e in
     let far = head_apart f x xs p.0 in (
       (λ _. refl, each_map (λ y. f x ≢ f y) (λ y. f y ≡ f x → g y ≡ g x) xs (λ y n k. absurd (n (sym k))) far),
       each_both (λ y. f x ≢ f y) (Tied f g xs) (Tied f g (x ∷ xs)) xs (λ y n d. (λ k. absurd (n k), d)) far (distinct_tied f g xs p.1),
     )
 
-head_distinct : {A : Type 0} (f : A → ℕ) (x : A) (xs : List A) → Each (λ y. f x ≢ f y) xs → not (any (nat_eq (f x)) (map f xs)) ≡ true
+head_distinct : {A : Type 0} (f : A → ℕ) (x : A) (xs : List A) → Each (λ y. f x ≢ f y) xs → not (list_any (nat_eq (f x)) (map f xs)) ≡ true
 head_distinct f x [] d = refl
-head_distinct f x (y ∷ xs) d = ap (λ (b : Bool). not (b || any (nat_eq (f x)) (map f xs))) (ne_eqb (f x) (f y) d.0) ∙ head_distinct f x xs d.1
+head_distinct f x (y ∷ xs) d = ap (λ (b : Bool). not (b || list_any (nat_eq (f x)) (map f xs))) (ne_eqb (f x) (f y) d.0) ∙ head_distinct f x xs d.1
 
 tied_distinct : {A : Type 0} (f g : A → ℕ) (xs : List A) → distinct (map g xs) ≡ true → Each (Tied f g xs) xs → distinct (map f xs) ≡ true
 tied_distinct f g [] e d = refl
 tied_distinct f g (x ∷ xs) e d =
-    let p = and_parts (not (any (nat_eq (g x)) (map g xs))) (distinct (map g xs)) e in
-    and_from (not (any (nat_eq (f x)) (map f xs))) (distinct (map f xs))
+    let p = and_parts (not (list_any (nat_eq (g x)) (map g xs))) (distinct (map g xs)) e in
+    and_from (not (list_any (nat_eq (f x)) (map f xs))) (distinct (map f xs))
     (head_distinct f x xs (each_both (λ y. g x ≢ g y) (λ y. f y ≡ f x → g y ≡ g x) (λ y. f x ≢ f y) xs (λ y n k m. n (sym (k (sym m)))) (head_apart g x xs p.0) d.0.1))
     (tied_distinct f g xs p.1 (each_map (Tied f g (x ∷ xs)) (Tied f g xs) xs (λ y k. k.1) d.1))
 
 -- ---- the set of a list's elements, and how many it has
 
 pub set_of : List ℕ → ℕ
-set_of l = mask 64 (λ v. any (nat_eq v) l)
+set_of l = mask 64 (λ v. list_any (nat_eq v) l)
 
-pub has_set_of : (l : List ℕ) (v : ℕ) → v < 64 → has (set_of l) v ≡ any (nat_eq v) l
+pub has_set_of : (l : List ℕ) (v : ℕ) → v < 64 → has (set_of l) v ≡ list_any (nat_eq v) l
 unfolding set_of
-has_set_of l v h = has_mask 64 (λ v. any (nat_eq v) l) v h
+has_set_of l v h = has_mask 64 (λ v. list_any (nat_eq v) l) v h
 
 pub set_of_below : (l : List ℕ) → set_of l < 2 ^ 64
 unfolding set_of
-set_of_below l = mask_below 64 (λ v. any (nat_eq v) l)
+set_of_below l = mask_below 64 (λ v. list_any (nat_eq v) l)
 
-again : (x : ℕ) (l : List ℕ) → any (nat_eq x) l ≡ true → set_of (x ∷ l) ≡ set_of l
+again : (x : ℕ) (l : List ℕ) → list_any (nat_eq x) l ≡ true → set_of (x ∷ l) ≡ set_of l
 again x l e = same_sets 64 (set_of (x ∷ l)) (set_of l) (set_of_below (x ∷ l)) (set_of_below l) (λ v h. has_set_of (x ∷ l) v h ∙ go v (cases_eq v x) ∙ sym (has_set_of l v h))
   where
-    go : (v : ℕ) → (v ≡ x) ⊎ (v ≢ x) → (v == x || any (nat_eq v) l) ≡ any (nat_eq v) l
+    go : (v : ℕ) → (v ≡ x) ⊎ (v ≢ x) → (v == x || list_any (nat_eq v) l) ≡ list_any (nat_eq v) l
     go v (inl k) =
-        let here : any (nat_eq v) l ≡ true = ap (λ (y : ℕ). any (nat_eq y) l) k ∙ e in
-        or_right (v == x) (any (nat_eq v) l) here ∙ sym here
-    go v (inr n) = ap (λ (b : Bool). b || any (nat_eq v) l) (ne_eqb v x n)
+        let here : list_any (nat_eq v) l ≡ true = ap (λ (y : ℕ). list_any (nat_eq y) l) k ∙ e in
+        or_right (v == x) (list_any (nat_eq v) l) here ∙ sym here
+    go v (inr n) = ap (λ (b : Bool). b || list_any (nat_eq v) l) (ne_eqb v x n)
 
-anew : (x : ℕ) (l : List ℕ) → x < 64 → any (nat_eq x) l ≡ false → count_ones (set_of (x ∷ l)) ≡ suc (count_ones (set_of l))
+anew : (x : ℕ) (l : List ℕ) → x < 64 → list_any (nat_eq x) l ≡ false → count_ones (set_of (x ∷ l)) ≡ suc (count_ones (set_of l))
 anew x l h e =
     ones_less 64 (set_of (x ∷ l)) (set_of l) x (set_of_below (x ∷ l)) (set_of_below l)
-    (has_set_of (x ∷ l) x h ∙ or_left (x == x) (any (nat_eq x) l) (eq-eqb x x refl)) (has_set_of l x h ∙ e) (λ w n. go w n (cases_lt w 64))
+    (has_set_of (x ∷ l) x h ∙ or_left (x == x) (list_any (nat_eq x) l) (eq-eqb x x refl)) (has_set_of l x h ∙ e) (λ w n. go w n (cases_lt w 64))
   where
     go : (w : ℕ) → w ≢ x → (w < 64) ⊎ (64 ≤ w) → has (set_of (x ∷ l)) w ≡ has (set_of l) w
-    go w n (inl k) = has_set_of (x ∷ l) w k ∙ ap (λ (b : Bool). b || any (nat_eq w) l) (ne_eqb w x n) ∙ sym (has_set_of l w k)
+    go w n (inl k) = has_set_of (x ∷ l) w k ∙ ap (λ (b : Bool). b || list_any (nat_eq w) l) (ne_eqb w x n) ∙ sym (has_set_of l w k)
     go w n (inr k) = has_above 64 (set_of (x ∷ l)) w (set_of_below (x ∷ l)) k ∙ sym (has_above 64 (set_of l) w (set_of_below l) k)
 
 none_there : count_ones (set_of []) ≡ 0
@@ -90,9 +91,9 @@ none_there = ap count_ones (same_sets 64 (set_of []) 0 (set_of_below []) (lit< t
 -- the elements differ where their set has as many values as the list has elements
 pub count_distinct : (l : List ℕ) → Each (λ x. x < 64) l → (count_ones (set_of l) ≤ length l) × (distinct l ≡ (count_ones (set_of l) == length l))
 count_distinct [] d = (omega (arith, none_there), sym (eq-eqb (count_ones (set_of [])) 0 none_there))
-count_distinct (x ∷ l) d = go (cases_Bool (any (nat_eq x) l)) (count_distinct l d.1)
+count_distinct (x ∷ l) d = go (cases_Bool (list_any (nat_eq x) l)) (count_distinct l d.1)
   where
-    go : (any (nat_eq x) l ≡ true) ⊎ (any (nat_eq x) l ≡ false) → (count_ones (set_of l) ≤ length l) × (distinct l ≡ (count_ones (set_of l) == length l))
+    go : (list_any (nat_eq x) l ≡ true) ⊎ (list_any (nat_eq x) l ≡ false) → (count_ones (set_of l) ≤ length l) × (distinct l ≡ (count_ones (set_of l) == length l))
         → (count_ones (set_of (x ∷ l)) ≤ suc (length l)) × (distinct (x ∷ l) ≡ (count_ones (set_of (x ∷ l)) == suc (length l)))
     go (inl e) c =
         let n : count_ones (set_of (x ∷ l)) ≡ count_ones (set_of l) = ap count_ones (again x l e) in
@@ -104,7 +105,7 @@ count_distinct (x ∷ l) d = go (cases_Bool (any (nat_eq x) l)) (count_distinct 
         (omega arith, ap (λ (b : Bool). not b && distinct l) e ∙ c.1 ∙ sym (eqb-suc-suc (count_ones (set_of l)) (length l)) ∙ ap (λ (k : ℕ). nat_eq k (suc (length l))) (sym n))
 
 -- two lists of one length with the same values
-same_distinct : (k l : List ℕ) → Each (λ x. x < 64) k → Each (λ x. x < 64) l → length k ≡ length l → ((v : ℕ) → v < 64 → any (nat_eq v) k ≡ any (nat_eq v) l) → distinct k ≡ distinct l
+same_distinct : (k l : List ℕ) → Each (λ x. x < 64) k → Each (λ x. x < 64) l → length k ≡ length l → ((v : ℕ) → v < 64 → list_any (nat_eq v) k ≡ list_any (nat_eq v) l) → distinct k ≡ distinct l
 same_distinct k l a b e same =
     (count_distinct k a).1 ∙ ap₂ (λ (x y : ℕ). nat_eq (count_ones x) y)
     (same_sets 64 (set_of k) (set_of l) (set_of_below k) (set_of_below l) (λ v h. has_set_of k v h ∙ same v h ∙ sym (has_set_of l v h))) e
@@ -180,7 +181,7 @@ members : (r : RowData) (s : List ℕ) → Fine r s → Declared (length s) r.me
 members r s a = accepted_members (shaped 0x41 1 r) (differing_rule r) r (length s) a
 
 apart : (r : RowData) (s : List ℕ) → Fine r s → distinct (map (λ m. m.voice) r.members) ≡ true
-apart r s a = (and_parts (all (λ m. nat_eq (unsigned_abs m.argument) 0) r.members) (distinct (map (λ m. m.voice) r.members)) (verdict_parts (shaped 0x41 1 r) (declared (length s) r) (differing_rule r) a).rule).1
+apart r s a = (and_parts (list_all (λ m. nat_eq (unsigned_abs m.argument) 0) r.members) (distinct (map (λ m. m.voice) r.members)) (verdict_parts (shaped 0x41 1 r) (declared (length s) r) (differing_rule r) a).rule).1
 
 checks : (r : RowData) (s : List ℕ) → Fine r s → Proper s → all_fixed s ≡ true → distinct (map (at (values s)) r.members) ≡ false → some_empty (takes r.members r.members s) ≡ true
 checks r s a h f e =
@@ -190,10 +191,10 @@ checks r s a h f e =
     ∙ tied_distinct (λ m. least (at s m)) (λ m. m.voice) ms (apart r s a) (takes_nothing ms ms s h f (members r s a) (members r s a) k)) e
 
 -- all fixed and different, then it holds
-settled_holds : (s p : List ℕ) (ms : List Member) → Small s → Within p s → Declared (length s) ms → (all (λ m. fixed (at s m)) ms && distinct (map (λ m. least (at s m)) ms)) ≡ true
+settled_holds : (s p : List ℕ) (ms : List Member) → Small s → Within p s → Declared (length s) ms → (list_all (λ m. fixed (at s m)) ms && distinct (map (λ m. least (at s m)) ms)) ≡ true
     → distinct (map (at p) ms) ≡ true
 settled_holds s p ms h w d e =
-    let k = and_parts (all (λ m. fixed (at s m)) ms) (distinct (map (λ m. least (at s m)) ms)) e in
+    let k = and_parts (list_all (λ m. fixed (at s m)) ms) (distinct (map (λ m. least (at s m)) ms)) e in
     ap distinct (map_same (at p) (λ m. least (at s m)) ms (each_both (λ m. m.voice < length s) (λ m. fixed (at s m) ≡ true) (λ m. at p m ≡ least (at s m)) ms
     (λ m l f. fixed_value s p m.voice h w l f) d (all_each (λ m. fixed (at s m)) ms k.0))) ∙ k.1
 
@@ -203,9 +204,9 @@ fixed_as s v m = fixed (at s m) && v == least (at s m)
 abbrev open_as : List ℕ → List ℕ → ℕ → Member → Bool
 open_as s p v m = not (fixed (at s m)) && v == at p m
 
-any_split : {A : Type 0} (h f g : A → Bool) (xs : List A) → Each (λ x. h x ≡ (f x || g x)) xs → any h xs ≡ (any f xs || any g xs)
+any_split : {A : Type 0} (h f g : A → Bool) (xs : List A) → Each (λ x. h x ≡ (f x || g x)) xs → list_any h xs ≡ (list_any f xs || list_any g xs)
 any_split h f g [] e = refl
-any_split h f g (x ∷ xs) e = ap₂ ◌||◌ e.0 (any_split h f g xs e.1) ∙ swap (f x) (g x) (any f xs) (any g xs)
+any_split h f g (x ∷ xs) e = ap₂ ◌||◌ e.0 (any_split h f g xs e.1) ∙ swap (f x) (g x) (list_any f xs) (list_any g xs)
   where
     swap : (a b c d : Bool) → ((a || b) || (c || d)) ≡ ((a || c) || (b || d))
     swap true b c d = refl
@@ -213,7 +214,7 @@ any_split h f g (x ∷ xs) e = ap₂ ◌||◌ e.0 (any_split h f g xs e.1) ∙ s
     swap false true false d = refl
     swap false false c d = refl
 
-value_split : (s p : List ℕ) (v : ℕ) (ms : List Member) → Small s → Within p s → Declared (length s) ms → any (nat_eq v) (map (at p) ms) ≡ (any (fixed_as s v) ms || any (open_as s p v) ms)
+value_split : (s p : List ℕ) (v : ℕ) (ms : List Member) → Small s → Within p s → Declared (length s) ms → list_any (nat_eq v) (map (at p) ms) ≡ (list_any (fixed_as s v) ms || list_any (open_as s p v) ms)
 value_split s p v ms h w d = any_map (at p) (nat_eq v) ms ∙ any_split (λ m. nat_eq v (at p m)) (fixed_as s v) (open_as s p v) ms
     (each_map (λ m. m.voice < length s) (λ m. (v == at p m) ≡ (fixed_as s v m || open_as s p v m)) ms (λ m l. go m (fixed (at s m)) refl l) d)
   where
@@ -226,12 +227,12 @@ value_split s p v ms h w d = any_map (at p) (nat_eq v) ms ∙ any_split (λ m. n
     go m false f l = refl
 
 projects_open : (s t p q : List ℕ) (ms : List Member) → Twins s t p q → Declared (length s) ms
-    → mask 64 (λ v. any (fixed_as s v) ms) ≡ mask 64 (λ v. any (fixed_as t v) ms) → distinct (map (at p) ms) ≡ distinct (map (at q) ms)
+    → mask 64 (λ v. list_any (fixed_as s v) ms) ≡ mask 64 (λ v. list_any (fixed_as t v) ms) → distinct (map (at p) ms) ≡ distinct (map (at q) ms)
 projects_open s t p q ms w d e =
     let dt : Declared (length t) ms = subst (λ (n : ℕ). Declared n ms) w.alike.long d in
     same_distinct (map (at p) ms) (map (at q) ms) (below s p w.small_s w.in_s ms d) (below t q w.small_t w.in_t ms dt) (length-map ms (at p) ∙ sym (length-map ms (at q)))
     (λ v h. value_split s p v ms w.small_s w.in_s d
-    ∙ ap₂ ◌||◌ (sym (has_mask 64 (λ v. any (fixed_as s v) ms) v h) ∙ ap (λ (x : ℕ). has x v) e ∙ has_mask 64 (λ v. any (fixed_as t v) ms) v h)
+    ∙ ap₂ ◌||◌ (sym (has_mask 64 (λ v. list_any (fixed_as s v) ms) v h) ∙ ap (λ (x : ℕ). has x v) e ∙ has_mask 64 (λ v. list_any (fixed_as t v) ms) v h)
     (any_same (open_as s p v) (open_as t q v) ms (each_map (λ m. m.voice < length s) (λ m. open_as s p v m ≡ open_as t q v m) ms (λ m l. one v m l) d))
     ∙ sym (value_split t q v ms w.small_t w.in_t dt))
   where
@@ -246,10 +247,10 @@ projects_open s t p q ms w d e =
     ]
 
 abbrev done : List ℕ → List Member → Bool
-done s ms = all (λ m. fixed (at s m)) ms && distinct (map (λ m. least (at s m)) ms)
+done s ms = list_all (λ m. fixed (at s m)) ms && distinct (map (λ m. least (at s m)) ms)
 
 abbrev content_of : List ℕ → List Member → ℕ
-content_of s ms = mask 64 (λ v. any (fixed_as s v) ms)
+content_of s ms = mask 64 (λ v. list_any (fixed_as s v) ms)
 
 projects : (s t p q : List ℕ) (ms : List Member) → Twins s t p q → Declared (length s) ms
     → cond (done s ms) settled (open_with (content_of s ms)) ≡ cond (done t ms) settled (open_with (content_of t ms)) → distinct (map (at p) ms) ≡ distinct (map (at q) ms)

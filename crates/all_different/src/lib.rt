@@ -2,7 +2,8 @@
 #![tactic(auto)]
 
 ghost use Rattle.std.specs.Prelude.{◌≡◌, map, nat_eq, unsigned_abs};
-ghost use Rattle.sets.specs.Placings.{all, any, changed};
+ghost use Rattle.sets.specs.Placings.{changed};
+ghost use Rattle.std.specs.List.{list_all, list_any};
 ghost use Rattle.narrowing.specs.Shared.{at, cuts, distinct};
 ghost use Rattle.all_different.specs.Differing.{spares, used, all_different};
 ghost use Rattle.all_different.specs.DifferingLaws.{all_different_lawful};
@@ -17,7 +18,7 @@ use sets::{ValueSet, is_fixed};
 
 // Whether the members' arguments are all 0.
 fn have_no_arguments(members: &[Member]) -> bool
-    ensures { result ≡ all (λ m. nat_eq (unsigned_abs m.argument) 0) members.now }
+    ensures { result ≡ list_all (λ m. nat_eq (unsigned_abs m.argument) 0) members.now }
 {
     for m in members {
         if m.argument != 0 {
@@ -41,7 +42,7 @@ fn have_own_voices(members: &[Member]) -> bool
 
 // Whether some member has this voice.
 fn is_named(members: &[Member], voice: u16) -> bool
-    ensures { result ≡ any (λ m. nat_eq voice m.voice) members.now }
+    ensures { result ≡ list_any (λ m. nat_eq voice m.voice) members.now }
 {
     for m in members {
         if m.voice == voice {

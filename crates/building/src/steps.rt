@@ -7,11 +7,9 @@ use crate::fault::BuildFault;
 use crate::ticket::{CloseFault, Declined, Ticket};
 use planner::table::Table;
 use rows::bank::Bank;
+use rows::member::MEMBER_MARK;
 use rows::row::MOST_MEMBERS;
 use stores::store::Store;
-
-// What each member begins with.
-const MEMBER_MARK: u8 = 0x4D;
 
 // Writes the bytes from a place on; the other bytes stay.
 fn write_at(memory: &mut [u8], place: usize, bytes: &[u8])

@@ -1,7 +1,7 @@
 -- Histories over one store, as a function of the calls.
 use Rattle.std.proofs.Common.{◌≡◌, ℕ, zero, suc, Bool, true, ltb, List, [], ◌∷◌, sym, refl, ◌∙◌, subst, arith}
 use Rattle.std.proofs.lemmas.Bool.{and_parts, ltb-true}
-use Rattle.sets.specs.Placings.{all}
+use Rattle.std.specs.List.{list_all}
 use Rattle.rows.specs.Rows.{Meaning}
 use Rattle.rows.specs.Bytes.{Bytes}
 use Rattle.stores.specs.Stores.{View}
@@ -17,15 +17,15 @@ use Rattle.cases.specs.Leading.{HistoryBy, Leads, calls_of}
 
 abbrev pub formed : Call → Bool
 formed (declare s) = ltb s 18446744073709551616
-formed (post bs) = all (λ b. ltb b 256) bs
+formed (post bs) = list_all (λ b. ltb b 256) bs
 formed (solve b) = true
-formed (read bs) = all (λ b. ltb b 256) bs
+formed (read bs) = list_all (λ b. ltb b 256) bs
 formed wipe = true
 
-small : (bs : List ℕ) → all (λ b. ltb b 256) bs ≡ true → Bytes bs
+small : (bs : List ℕ) → list_all (λ b. ltb b 256) bs ≡ true → Bytes bs
 small [] h i l = absurd (omega arith)
-small (b ∷ bs) h zero l = ltb-true b 256 (and_parts (ltb b 256) (all (λ b. ltb b 256) bs) h).0
-small (b ∷ bs) h (suc i) l = small bs (and_parts (ltb b 256) (all (λ b. ltb b 256) bs) h).1 i (omega arith)
+small (b ∷ bs) h zero l = ltb-true b 256 (and_parts (ltb b 256) (list_all (λ b. ltb b 256) bs) h).0
+small (b ∷ bs) h (suc i) l = small bs (and_parts (ltb b 256) (list_all (λ b. ltb b 256) bs) h).1 i (omega arith)
 
 formed_so : (c : Call) → formed c ≡ true → Formed c
 formed_so (declare s) h = ltb-true s 18446744073709551616 h
@@ -72,13 +72,13 @@ module _ (s : Behaviour) (m : Meaning) where
       let d = does_so p.table p.view c r refl in
       (History.then p.calls p.table r.1 p.view r.2 c r.0 h.0 f d.0, (h.1, d.1))
 
-  replay_real : (cs : List Call) → all formed cs ≡ true → Real (replay cs)
+  replay_real : (cs : List Call) → list_all formed cs ≡ true → Real (replay cs)
   replay_real [] f = (History.made (s.emptied nothing) (s.empties nothing), (nothing, refl))
   replay_real (c ∷ cs) f =
-      let fs = and_parts (formed c) (all formed cs) f in play_real c (replay cs) (formed_so c fs.0) (replay_real cs fs.1)
+      let fs = and_parts (formed c) (list_all formed cs) f in play_real c (replay cs) (formed_so c fs.0) (replay_real cs fs.1)
 
   -- a history whose calls, played, have these answers and come to this table and these keys
-  pub led : (h : List (Call × Answer)) (t : Table) (keys : List (List ℕ)) → all formed (calls_of h) ≡ true
+  pub led : (h : List (Call × Answer)) (t : Table) (keys : List (List ℕ)) → list_all formed (calls_of h) ≡ true
       → replay (calls_of h) ≡ record { calls = h; table = t; view = record { held = keys; space = (replay (calls_of h)).view.space } } → Leads s m h t keys
   led h t keys f e =
       let v : View = record { held = keys; space = (replay (calls_of h)).view.space } in

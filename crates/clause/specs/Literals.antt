@@ -2,7 +2,7 @@
 use Rattle.std.specs.Prelude.{ℕ, ◌-◌, Bool, false, cond, not, ◌&&◌, List, [], ◌∷◌, take, ◌==◌, nat_lt, unsigned_abs}
 use Rattle.std.specs.Int.Signed.{non_neg}
 use Rattle.sets.specs.Sets.{sift}
-use Rattle.sets.specs.Placings.{any, all}
+use Rattle.std.specs.List.{list_all, list_any}
 use Rattle.rows.specs.declared.member.Member.{Member}
 use Rattle.rows.specs.Rows.{RowData, KindMeaning}
 use Rattle.clause.specs.declared.Standing.{Standing}
@@ -46,14 +46,14 @@ abbrev pub in_range : Member → Bool
 in_range m = non_neg m.argument && nat_lt (unsigned_abs m.argument) 128
 
 abbrev pub clause_rule : RowData → Bool
-clause_rule r = all in_range r.members
+clause_rule r = list_all in_range r.members
 
 abbrev pub clause : KindMeaning
 clause = record {
   letter = 0x43;
   body_length = 1;
   accepts = λ r n. verdict (shaped 0x43 1 r) (declared n r) (clause_rule r);
-  holds = λ r p. any (λ m. says m (at p m)) r.members;
+  holds = λ r p. list_any (λ m. says m (at p m)) r.members;
   turn = λ r s. units (chosen (stands s) r.members) r.members s;
-  trace = λ r s. cond (any (certain s) r.members) settled (open_with 0);
+  trace = λ r s. cond (list_any (certain s) r.members) settled (open_with 0);
 }

@@ -5,7 +5,8 @@ use Rattle.std.proofs.lemmas.Bool.{eqb-true, ne_eqb, cases_Bool, both_ways, and_
 use Rattle.rows.specs.Laws.{Laws}
 use Rattle.rows.specs.Rows.{alone, RowData}
 use Rattle.rows.specs.declared.member.Member.{Member}
-use Rattle.sets.specs.Placings.{any, some_empty, all_fixed, Proper, Within, Narrower, values}
+use Rattle.sets.specs.Placings.{some_empty, all_fixed, Proper, Within, Narrower, values}
+use Rattle.std.specs.List.{list_any}
 use Rattle.sets.specs.Sets.{has, fixed, least, sift}
 use Rattle.clause.specs.Literals.{says, refuted, certain, chosen, units, clause, clause_rule}
 use Rattle.narrowing.specs.Shared.{at, shaped, declared, settled, open_with}
@@ -32,23 +33,23 @@ chosen_each P f (x ∷ xs) d = go (f x) d.0 (chosen_each P f xs d.1)
     go true e d = (e, d)
     go false e d = d
 
-chosen_any : {A : Type 0} (f g : A → Bool) (xs : List A) → Each (λ x. g x ≡ true → f x ≡ true) xs → any g xs ≡ true → any g (chosen f xs) ≡ true
+chosen_any : {A : Type 0} (f g : A → Bool) (xs : List A) → Each (λ x. g x ≡ true → f x ≡ true) xs → list_any g xs ≡ true → list_any g (chosen f xs) ≡ true
 chosen_any f g [] d e = e
-chosen_any f g (x ∷ xs) d e = go (f x) refl (or_cases (g x) (any g xs) e) (chosen_any f g xs d.1)
+chosen_any f g (x ∷ xs) d e = go (f x) refl (or_cases (g x) (list_any g xs) e) (chosen_any f g xs d.1)
   where
-    go : (b : Bool) → f x ≡ b → (g x ≡ true) ⊎ (any g xs ≡ true) → (any g xs ≡ true → any g (chosen f xs) ≡ true) → any g (cond b (x ∷ chosen f xs) (chosen f xs)) ≡ true
-    go true p (inl k) rest = or_left (g x) (any g (chosen f xs)) k
-    go true p (inr k) rest = or_right (g x) (any g (chosen f xs)) (rest k)
+    go : (b : Bool) → f x ≡ b → (g x ≡ true) ⊎ (list_any g xs ≡ true) → (list_any g xs ≡ true → list_any g (chosen f xs) ≡ true) → list_any g (cond b (x ∷ chosen f xs) (chosen f xs)) ≡ true
+    go true p (inl k) rest = or_left (g x) (list_any g (chosen f xs)) k
+    go true p (inr k) rest = or_right (g x) (list_any g (chosen f xs)) (rest k)
     go false p (inl k) rest = absurd (both_ways (f x) p (d.0 k))
     go false p (inr k) rest = rest k
 
-chosen_back : {A : Type 0} (f g : A → Bool) (xs : List A) → any g (chosen f xs) ≡ true → any g xs ≡ true
+chosen_back : {A : Type 0} (f g : A → Bool) (xs : List A) → list_any g (chosen f xs) ≡ true → list_any g xs ≡ true
 chosen_back f g [] e = e
 chosen_back f g (x ∷ xs) e = go (f x) (chosen_back f g xs) e
   where
-    go : (b : Bool) → (any g (chosen f xs) ≡ true → any g xs ≡ true) → any g (cond b (x ∷ chosen f xs) (chosen f xs)) ≡ true → any g (x ∷ xs) ≡ true
-    go true rest e = elim (or_cases (g x) (any g (chosen f xs)) e) [ inl k ↦ or_left (g x) (any g xs) k | inr k ↦ or_right (g x) (any g xs) (rest k) ]
-    go false rest e = or_right (g x) (any g xs) (rest e)
+    go : (b : Bool) → (list_any g (chosen f xs) ≡ true → list_any g xs ≡ true) → list_any g (cond b (x ∷ chosen f xs) (chosen f xs)) ≡ true → list_any g (x ∷ xs) ≡ true
+    go true rest e = elim (or_cases (g x) (list_any g (chosen f xs)) e) [ inl k ↦ or_left (g x) (list_any g xs) k | inr k ↦ or_right (g x) (list_any g xs) (rest k) ]
+    go false rest e = or_right (g x) (list_any g xs) (rest e)
 
 chosen_same : {A : Type 0} (f g : A → Bool) (xs : List A) → Each (λ x. f x ≡ g x) xs → chosen f xs ≡ chosen g xs
 chosen_same f g [] e = refl
@@ -88,7 +89,7 @@ units_narrower [] ms s = cuts_narrower (λ _ _. false) (take 1 ms) s
 units_narrower (m ∷ []) ms s = cuts_narrower says (m ∷ []) s
 units_narrower (m ∷ (n ∷ rest)) ms s = narrower_refl s
 
-units_within : (p : List ℕ) (l ms : List Member) (s : List ℕ) → Small s → Within p s → any (λ m. says m (at p m)) l ≡ true → Within p (units l ms s)
+units_within : (p : List ℕ) (l ms : List Member) (s : List ℕ) → Small s → Within p s → list_any (λ m. says m (at p m)) l ≡ true → Within p (units l ms s)
 units_within p [] ms s h w e = absurd (both_ways false refl e)
 units_within p (m ∷ []) ms s h w e = cuts_within p says (m ∷ []) s h w (elim (or_cases (says m (at p m)) false e) [ inl k ↦ k | inr k ↦ absurd (both_ways false refl k) ], tt)
 units_within p (m ∷ (n ∷ rest)) ms s h w e = w
@@ -116,7 +117,7 @@ Fine r s = clause.accepts r (length s) ≡ Ok tt
 members : (r : RowData) (s : List ℕ) → Fine r s → Declared (length s) r.members
 members r s a = accepted_members (shaped 0x43 1 r) (clause_rule r) r (length s) a
 
-sound : (r : RowData) (s p : List ℕ) → Fine r s → Proper s → Within p s → any (true_in p) r.members ≡ true → Within p (units (chosen (live s) r.members) r.members s)
+sound : (r : RowData) (s p : List ℕ) → Fine r s → Proper s → Within p s → list_any (true_in p) r.members ≡ true → Within p (units (chosen (live s) r.members) r.members s)
 sound r s p a h w e =
     units_within p (chosen (live s) r.members) r.members s (proper_small s h) w
     (chosen_any (live s) (true_in p) r.members
@@ -125,28 +126,28 @@ sound r s p a h w e =
 
 -- all is fixed and the turn changes nothing: the first literal that is not refuted is true
 still : (s : List ℕ) (l ms : List Member) → Proper s → all_fixed s ≡ true → 1 ≤ length ms → Declared (length s) ms → Declared (length s) l → Each (λ m. live s m ≡ true) l
-    → units l ms s ≡ s → (any (true_in (values s)) l ≡ true) ⊎ ⊥
+    → units l ms s ≡ s → (list_any (true_in (values s)) l ≡ true) ⊎ ⊥
 still s [] [] h f c d dl e k = absurd (omega arith)
 still s [] (m ∷ ms) h f c d dl e k =
     inr (both_ways false refl ((cuts_nothing (λ _ _. false) (m ∷ []) s (proper_small s h) (d.0, tt) k).0 (least (at s m)) (has_least (at s m) (h m.voice d.0).0 (h m.voice d.0).1)))
 still s (m ∷ l) ms h f c d dl e k =
-    inl (or_left (true_in (values s) m) (any (true_in (values s)) l)
+    inl (or_left (true_in (values s) m) (list_any (true_in (values s)) l)
     (ap (says m) (value_place s m.voice dl.0) ∙ fixed_passes (says m) (at s m) (proper_small s h m.voice) (fixed_place s m.voice f dl.0) (not-true (refuted s m) e.0)))
 
-checks : (r : RowData) (s : List ℕ) → Fine r s → Proper s → all_fixed s ≡ true → any (true_in (values s)) r.members ≡ false
+checks : (r : RowData) (s : List ℕ) → Fine r s → Proper s → all_fixed s ≡ true → list_any (true_in (values s)) r.members ≡ false
     → some_empty (units (chosen (live s) r.members) r.members s) ≡ true
 checks r s a h f e =
     let l = chosen (live s) r.members in
-    checks_by (units l r.members s) s (any (true_in (values s)) r.members) (units_small l r.members s (proper_small s h)) (proper_small s h) (units_narrower l r.members s) f
+    checks_by (units l r.members s) s (list_any (true_in (values s)) r.members) (units_small l r.members s (proper_small s h)) (proper_small s h) (units_narrower l r.members s) f
     (λ k. elim (still s l r.members h f (shaped_long 0x43 1 r (verdict_parts (shaped 0x43 1 r) (declared (length s) r) (clause_rule r) a).shape).0 (members r s a) (chosen_each (λ m. m.voice < length s) (live s) r.members (members r s a))
     (chosen_pass (live s) r.members) k) [ inl b ↦ chosen_back (live s) (true_in (values s)) r.members b | inr b ↦ absurd b ]) e
 
 -- a certain literal is true in each placing within the sets
-certain_true : (s p : List ℕ) (ms : List Member) → Small s → Within p s → Declared (length s) ms → any (certain s) ms ≡ true → any (true_in p) ms ≡ true
+certain_true : (s p : List ℕ) (ms : List Member) → Small s → Within p s → Declared (length s) ms → list_any (certain s) ms ≡ true → list_any (true_in p) ms ≡ true
 certain_true s p [] h w d e = e
-certain_true s p (m ∷ ms) h w d e = elim (or_cases (certain s m) (any (certain s) ms) e) [
-  | inl k ↦ or_left (true_in p m) (any (true_in p) ms) (not-false (true_in p m) (none_pass (λ v. not (says m v)) (at s m) (at p m) (h m.voice) k (w.each m.voice d.0)))
-  | inr k ↦ or_right (true_in p m) (any (true_in p) ms) (certain_true s p ms h w d.1 k)
+certain_true s p (m ∷ ms) h w d e = elim (or_cases (certain s m) (list_any (certain s) ms) e) [
+  | inl k ↦ or_left (true_in p m) (list_any (true_in p) ms) (not-false (true_in p m) (none_pass (λ v. not (says m v)) (at s m) (at p m) (h m.voice) k (w.each m.voice d.0)))
+  | inr k ↦ or_right (true_in p m) (list_any (true_in p) ms) (certain_true s p ms h w d.1 k)
 ]
 
 -- a literal over a fixed set that is not certain is false
@@ -159,18 +160,18 @@ uncertain s t p q m w l cs ct = elim (at_twins s t p q m.voice w l) [
   | inr b ↦ ap (says m) b.same
 ]
 
-uncertain_all : (s t p q : List ℕ) (ms : List Member) → Twins s t p q → Declared (length s) ms → any (certain s) ms ≡ false → any (certain t) ms ≡ false
-    → any (true_in p) ms ≡ any (true_in q) ms
+uncertain_all : (s t p q : List ℕ) (ms : List Member) → Twins s t p q → Declared (length s) ms → list_any (certain s) ms ≡ false → list_any (certain t) ms ≡ false
+    → list_any (true_in p) ms ≡ list_any (true_in q) ms
 uncertain_all s t p q ms w d cs ct =
     any_same (true_in p) (true_in q) ms
     (each_both (λ m. m.voice < length s) (λ m. (certain s m ≡ false) × (certain t m ≡ false)) (λ m. true_in p m ≡ true_in q m) ms (λ m l c. uncertain s t p q m w l c.0 c.1) d
     (each_both (λ m. certain s m ≡ false) (λ m. certain t m ≡ false) (λ m. (certain s m ≡ false) × (certain t m ≡ false)) ms (λ m x y. (x, y)) (none_each (certain s) ms cs) (none_each (certain t) ms ct)))
 
 projects : (s t p q : List ℕ) (ms : List Member) → Twins s t p q → Declared (length s) ms
-    → cond (any (certain s) ms) settled (open_with 0) ≡ cond (any (certain t) ms) settled (open_with 0) → any (true_in p) ms ≡ any (true_in q) ms
+    → cond (list_any (certain s) ms) settled (open_with 0) ≡ cond (list_any (certain t) ms) settled (open_with 0) → list_any (true_in p) ms ≡ list_any (true_in q) ms
 projects s t p q ms w d e =
-    let mark : any (certain s) ms ≡ any (certain t) ms = same_mark (any (certain s) ms) (any (certain t) ms) 0 0 e in
-    elim (cases_Bool (any (certain s) ms)) [
+    let mark : list_any (certain s) ms ≡ list_any (certain t) ms = same_mark (list_any (certain s) ms) (list_any (certain t) ms) 0 0 e in
+    elim (cases_Bool (list_any (certain s) ms)) [
       | inl k ↦ certain_true s p ms w.small_s w.in_s d k ∙ sym (certain_true t q ms w.small_t w.in_t (subst (λ (n : ℕ). Declared n ms) w.alike.long d) (sym mark ∙ k))
       | inr k ↦ uncertain_all s t p q ms w d k (sym mark ∙ k)
     ]

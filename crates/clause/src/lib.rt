@@ -3,7 +3,8 @@
 
 ghost use Rattle.std.specs.Prelude.{◌≡◌, false, take};
 ghost use Rattle.sets.specs.Sets.{mask};
-ghost use Rattle.sets.specs.Placings.{all, any, changed};
+ghost use Rattle.sets.specs.Placings.{changed};
+ghost use Rattle.std.specs.List.{list_all, list_any};
 ghost use Rattle.narrowing.specs.Shared.{cuts};
 ghost use Rattle.clause.specs.Literals.{says, refuted, certain, stands, standing_of, chosen, in_range, clause};
 ghost use Rattle.clause.specs.LiteralsLaws.{clause_lawful};
@@ -79,7 +80,7 @@ fn empty_first(literals: &[Member], sets: &mut [ValueSet]) -> bool
 
 // Whether some literal is certain.
 fn is_settled(literals: &[Member], sets: &[ValueSet]) -> bool
-    ensures { result ≡ any (certain sets.now) literals.now }
+    ensures { result ≡ list_any (certain sets.now) literals.now }
 {
     for m in literals {
         if is_certain(*m, sets) {
@@ -101,7 +102,7 @@ fn is_in_range(literal: Member) -> bool
 
 // Whether all literals' arguments are.
 fn are_in_range(literals: &[Member]) -> bool
-    ensures { result ≡ all in_range literals.now }
+    ensures { result ≡ list_all in_range literals.now }
 {
     for m in literals {
         if !is_in_range(*m) {

@@ -2,7 +2,7 @@
 use Rattle.std.specs.Prelude.{ℕ, zero, suc, Bool, true, false, cond, ◌&&◌, ◌||◌, List, [], ◌∷◌, length, ◌==◌, nat_lt, slice_index, unsigned_abs}
 use Rattle.std.specs.Int.Signed.{non_neg}
 use Rattle.sets.specs.Sets.{has, fixed, least}
-use Rattle.sets.specs.Placings.{all}
+use Rattle.std.specs.List.{list_all}
 use Rattle.rows.specs.declared.member.Member.{Member}
 use Rattle.rows.specs.declared.trace.Trace.{Trace}
 use Rattle.rows.specs.Rows.{RowData, KindMeaning, byte}
@@ -50,7 +50,7 @@ abbrev pub is_entry : Member → Bool
 is_entry m = m.voice == 0 && (non_neg m.argument && nat_lt (unsigned_abs m.argument) 64)
 
 abbrev pub element_rule : RowData → Bool
-element_rule r = all is_entry r.members
+element_rule r = list_all is_entry r.members
 
 abbrev pub element : KindMeaning
 element = record {

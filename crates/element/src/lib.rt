@@ -4,7 +4,8 @@
 
 ghost use Rattle.std.specs.Prelude.{◌≡◌, ◌&&◌, length, if◌then◌else◌, ◌==◌, nat_lt, unsigned_abs};
 ghost use Rattle.sets.specs.Sets.{has, mask};
-ghost use Rattle.sets.specs.Placings.{all, changed};
+ghost use Rattle.sets.specs.Placings.{changed};
+ghost use Rattle.std.specs.List.{list_all};
 ghost use Rattle.rows.specs.Views.{row_of};
 ghost use Rattle.narrowing.specs.Shared.{settled, open_with};
 ghost use Rattle.element.specs.Entries.{index, result_voice, entry, reached, indexed, resulted, is_entry, element};
@@ -124,7 +125,7 @@ fn is_entry(m: Member) -> bool
 
 // Whether all members are entries.
 fn are_entries(members: &[Member]) -> bool
-    ensures { result ≡ all is_entry members.now }
+    ensures { result ≡ list_all is_entry members.now }
 {
     for m in members {
         if !is_entry(*m) {

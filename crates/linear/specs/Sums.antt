@@ -4,7 +4,7 @@ use Rattle.std.specs.Int.Signed.{non_neg}
 use Rattle.std.specs.Int.{w32}
 use Rattle.std.proofs.Common.{to_z}
 use Rattle.sets.specs.Sets.{fixed, least, greatest}
-use Rattle.sets.specs.Placings.{all}
+use Rattle.std.specs.List.{list_all}
 use Rattle.rows.specs.declared.member.Member.{Member}
 use Rattle.rows.specs.Rows.{RowData, KindMeaning, byte}
 use Rattle.narrowing.specs.Shared.{cuts, at, shaped, verdict, declared, settled, open_with}
@@ -39,7 +39,7 @@ within r s m v = int_le (term m v +ℤ (total (low s) r.members -ℤ low s m)) (
 
 -- the bound from -3,000,000 to 3,000,000, the coefficients from -1,000 to 1,000
 abbrev pub linear_rule : RowData → Bool
-linear_rule r = nat_le (unsigned_abs (bound r)) 3000000 && all (λ m. leb (unsigned_abs m.argument) 1000) r.members
+linear_rule r = nat_le (unsigned_abs (bound r)) 3000000 && list_all (λ m. leb (unsigned_abs m.argument) 1000) r.members
 
 -- z lies from -n to n: so the code's sums fit
 pub record Near (n : ℕ) (z : ℤ) : Type 0 where

@@ -9,7 +9,8 @@ use Rattle.std.proofs.lemmas.Bool.{leb-true, cases_Bool, both_ways, and_parts}
 use Rattle.rows.specs.Laws.{Laws}
 use Rattle.rows.specs.Rows.{alone, RowData}
 use Rattle.rows.specs.declared.member.Member.{Member}
-use Rattle.sets.specs.Placings.{all, some_empty, all_fixed, Proper, Within, values}
+use Rattle.sets.specs.Placings.{some_empty, all_fixed, Proper, Within, values}
+use Rattle.std.specs.List.{list_all}
 use Rattle.sets.specs.Sets.{has, fixed, least, greatest}
 use Rattle.narrowing.specs.Shared.{at, cut, cuts, shaped, declared, settled, open_with}
 use Rattle.linear.specs.Sums.{bound, total, term, low, high, within, linear, linear_rule}
@@ -143,7 +144,7 @@ long r s a = shaped_long 0x4C 5 r (verdict_parts (shaped 0x4C 5 r) (declared (le
 
 coefficients : (r : RowData) (s : List ℕ) → Fine r s → Each (λ m. nat_le (unsigned_abs m.argument) 1000 ≡ true) r.members
 coefficients r s a = all_each (λ m. leb (unsigned_abs m.argument) 1000) r.members
-    (and_parts (nat_le (unsigned_abs (bound r)) 3000000) (all (λ m. leb (unsigned_abs m.argument) 1000) r.members) (verdict_parts (shaped 0x4C 5 r) (declared (length s) r) (linear_rule r) a).rule).1
+    (and_parts (nat_le (unsigned_abs (bound r)) 3000000) (list_all (λ m. leb (unsigned_abs m.argument) 1000) r.members) (verdict_parts (shaped 0x4C 5 r) (declared (length s) r) (linear_rule r) a).rule).1
 
 lows : (s p : List ℕ) (ms : List Member) → Small s → Within p s → Declared (length s) ms → Each (λ m. low s m ≤ℤ value_of p m) ms
 lows s p ms h w d = each_map (λ m. m.voice < length s) (λ m. low s m ≤ℤ value_of p m) ms (λ m l. low_le s m (at p m) h (w.each m.voice l)) d

@@ -3,7 +3,7 @@
 
 ghost use Rattle.std.specs.Prelude.{◌≡◌, ◌*◌, ◌^◌, map, length, take, pos, ◌*ℤ◌, int_le, nat_le, unsigned_abs};
 ghost use Rattle.sets.specs.Sets.{mask};
-ghost use Rattle.sets.specs.Placings.{all};
+ghost use Rattle.std.specs.List.{list_all};
 ghost use Rattle.rows.specs.Views.{row_of};
 ghost use Rattle.linear.specs.Sums.{bound as bound_of, low, high, placed as placed_of, total, linear_rule, linear, Near};
 ghost use Rattle.linear.specs.SumsLaws.{linear_lawful};
@@ -143,7 +143,7 @@ fn total_placed(row: &Row, sets: &[ValueSet]) -> i64
 
 // Whether the coefficients are all from -1,000 to 1,000.
 fn are_small(members: &[Member]) -> bool
-    ensures { result ≡ all (λ m. nat_le (unsigned_abs m.argument) 1000) members.now }
+    ensures { result ≡ list_all (λ m. nat_le (unsigned_abs m.argument) 1000) members.now }
 {
     for m in members {
         if m.argument.unsigned_abs() > LARGEST_COEFFICIENT {

@@ -3,7 +3,8 @@ use Rattle.std.proofs.Common.{◌≡◌, ℕ, zero, suc, ◌^◌, ◌<◌, ◌�
 use Rattle.std.proofs.lemmas.List.{get_or-set_same, get_or-set_other, set-append_left, ext_get_or, get_or_past, get_or_append_left, set_past}
 use Rattle.std.proofs.lemmas.Bool.{cases_eq, cases_lt, both_ways, and_parts, and_from, or_parts, or_cases}
 use Rattle.rows.specs.declared.member.Member.{Member}
-use Rattle.sets.specs.Placings.{all, any, some_empty, all_fixed, Proper, Within, Narrower}
+use Rattle.sets.specs.Placings.{some_empty, all_fixed, Proper, Within, Narrower}
+use Rattle.std.specs.List.{list_all, list_any}
 use Rattle.sets.specs.Sets.{has, fixed, sift}
 use Rattle.narrowing.specs.Shared.{cut, cuts, at}
 use Rattle.sets.proofs.Membership.{sift_below, has_sift, sift_part, has_below, fixed_part, parts_same}
@@ -14,17 +15,17 @@ abbrev pub Each : {A : Type 0} → (A → Type 0) → List A → Type 0
 Each P [] = Unit {0}
 Each P (x ∷ xs) = P x × Each P xs
 
-pub all_each : {A : Type 0} (f : A → Bool) (xs : List A) → all f xs ≡ true → Each (λ x. f x ≡ true) xs
+pub all_each : {A : Type 0} (f : A → Bool) (xs : List A) → list_all f xs ≡ true → Each (λ x. f x ≡ true) xs
 all_each f [] e = tt
-all_each f (x ∷ xs) e = ((and_parts (f x) (all f xs) e).0, all_each f xs (and_parts (f x) (all f xs) e).1)
+all_each f (x ∷ xs) e = ((and_parts (f x) (list_all f xs) e).0, all_each f xs (and_parts (f x) (list_all f xs) e).1)
 
-pub each_all : {A : Type 0} (f : A → Bool) (xs : List A) → Each (λ x. f x ≡ true) xs → all f xs ≡ true
+pub each_all : {A : Type 0} (f : A → Bool) (xs : List A) → Each (λ x. f x ≡ true) xs → list_all f xs ≡ true
 each_all f [] e = refl
-each_all f (x ∷ xs) e = and_from (f x) (all f xs) e.0 (each_all f xs e.1)
+each_all f (x ∷ xs) e = and_from (f x) (list_all f xs) e.0 (each_all f xs e.1)
 
-pub none_each : {A : Type 0} (f : A → Bool) (xs : List A) → any f xs ≡ false → Each (λ x. f x ≡ false) xs
+pub none_each : {A : Type 0} (f : A → Bool) (xs : List A) → list_any f xs ≡ false → Each (λ x. f x ≡ false) xs
 none_each f [] e = tt
-none_each f (x ∷ xs) e = ((or_parts (f x) (any f xs) e).0, none_each f xs (or_parts (f x) (any f xs) e).1)
+none_each f (x ∷ xs) e = ((or_parts (f x) (list_any f xs) e).0, none_each f xs (or_parts (f x) (list_any f xs) e).1)
 
 pub each_map : {A : Type 0} (P Q : A → Type 0) (xs : List A) → ((x : A) → P x → Q x) → Each P xs → Each Q xs
 each_map P Q [] g e = tt
@@ -38,11 +39,11 @@ pub each_any : {A : Type 0} (P : A → Type 0) (xs : List A) → ((x : A) → P 
 each_any P [] g = tt
 each_any P (x ∷ xs) g = (g x, each_any P xs g)
 
-pub any_same : {A : Type 0} (f g : A → Bool) (xs : List A) → Each (λ x. f x ≡ g x) xs → any f xs ≡ any g xs
+pub any_same : {A : Type 0} (f g : A → Bool) (xs : List A) → Each (λ x. f x ≡ g x) xs → list_any f xs ≡ list_any g xs
 any_same f g [] e = refl
 any_same f g (x ∷ xs) e = ap₂ ◌||◌ e.0 (any_same f g xs e.1)
 
-pub all_same : {A : Type 0} (f g : A → Bool) (xs : List A) → Each (λ x. f x ≡ g x) xs → all f xs ≡ all g xs
+pub all_same : {A : Type 0} (f g : A → Bool) (xs : List A) → Each (λ x. f x ≡ g x) xs → list_all f xs ≡ list_all g xs
 all_same f g [] e = refl
 all_same f g (x ∷ xs) e = ap₂ ◌&&◌ e.0 (all_same f g xs e.1)
 
@@ -51,9 +52,9 @@ map_same f g [] e = refl
 map_same f g (x ∷ xs) e = ap₂ {C = List _} (λ y ys. y ∷ ys) e.0 (map_same f g xs e.1)
 
 -- one that passes
-pub any_one : {A : Type 0} (P : A → Type 0) (f : A → Bool) (xs : List A) → any f xs ≡ true → Each P xs → (x : A) × (f x ≡ true) × P x
+pub any_one : {A : Type 0} (P : A → Type 0) (f : A → Bool) (xs : List A) → list_any f xs ≡ true → Each P xs → (x : A) × (f x ≡ true) × P x
 any_one P f [] e d = absurd (both_ways false refl e)
-any_one P f (x ∷ xs) e d = elim (or_cases (f x) (any f xs) e) [ inl k ↦ (x, k, d.0) | inr k ↦ any_one P f xs k d.1 ]
+any_one P f (x ∷ xs) e d = elim (or_cases (f x) (list_any f xs) e) [ inl k ↦ (x, k, d.0) | inr k ↦ any_one P f xs k d.1 ]
 
 -- ---- sets below 2 ^ 64
 

@@ -2,26 +2,26 @@
 use Rattle.std.proofs.Common.{◌≡◌, ℕ, ◌+◌, ◌<◌, ◌≤◌, Bool, true, false, ◌&&◌, ◌||◌, List, length, get_or, drop, pos, ap, ◌∙◌}
 use Rattle.std.proofs.lemmas.List.{at_drop_more, at_drop_all}
 use Rattle.rows.specs.declared.member.Member.{Member}
-use Rattle.sets.specs.Placings.{all, any}
+use Rattle.std.specs.List.{list_all, list_any}
 
 -- the member that a list read past its end gives
 abbrev pub nobody : Member
 nobody = record { voice = 0; argument = pos 0 }
 
-pub all_more : {A : Type 0} (f : A → Bool) (xs : List A) (i : ℕ) (d : A) → i < length xs → f (get_or xs i d) ≡ true → all f (drop i xs) ≡ all f (drop (i + 1) xs)
-all_more f xs i d h e = at_drop_more (all f) xs i d h ∙ ap (λ (b : Bool). b && all f (drop (i + 1) xs)) e
+pub all_more : {A : Type 0} (f : A → Bool) (xs : List A) (i : ℕ) (d : A) → i < length xs → f (get_or xs i d) ≡ true → list_all f (drop i xs) ≡ list_all f (drop (i + 1) xs)
+all_more f xs i d h e = at_drop_more (list_all f) xs i d h ∙ ap (λ (b : Bool). b && list_all f (drop (i + 1) xs)) e
 
-pub all_stop : {A : Type 0} (f : A → Bool) (xs : List A) (i : ℕ) (d : A) → i < length xs → f (get_or xs i d) ≡ false → all f (drop i xs) ≡ false
-all_stop f xs i d h e = at_drop_more (all f) xs i d h ∙ ap (λ (b : Bool). b && all f (drop (i + 1) xs)) e
+pub all_stop : {A : Type 0} (f : A → Bool) (xs : List A) (i : ℕ) (d : A) → i < length xs → f (get_or xs i d) ≡ false → list_all f (drop i xs) ≡ false
+all_stop f xs i d h e = at_drop_more (list_all f) xs i d h ∙ ap (λ (b : Bool). b && list_all f (drop (i + 1) xs)) e
 
-pub all_end : {A : Type 0} (f : A → Bool) (xs : List A) (i : ℕ) → length xs ≤ i → all f (drop i xs) ≡ true
-all_end f xs i h = at_drop_all (all f) xs i h
+pub all_end : {A : Type 0} (f : A → Bool) (xs : List A) (i : ℕ) → length xs ≤ i → list_all f (drop i xs) ≡ true
+all_end f xs i h = at_drop_all (list_all f) xs i h
 
-pub any_more : {A : Type 0} (f : A → Bool) (xs : List A) (i : ℕ) (d : A) → i < length xs → f (get_or xs i d) ≡ false → any f (drop i xs) ≡ any f (drop (i + 1) xs)
-any_more f xs i d h e = at_drop_more (any f) xs i d h ∙ ap (λ (b : Bool). b || any f (drop (i + 1) xs)) e
+pub any_more : {A : Type 0} (f : A → Bool) (xs : List A) (i : ℕ) (d : A) → i < length xs → f (get_or xs i d) ≡ false → list_any f (drop i xs) ≡ list_any f (drop (i + 1) xs)
+any_more f xs i d h e = at_drop_more (list_any f) xs i d h ∙ ap (λ (b : Bool). b || list_any f (drop (i + 1) xs)) e
 
-pub any_stop : {A : Type 0} (f : A → Bool) (xs : List A) (i : ℕ) (d : A) → i < length xs → f (get_or xs i d) ≡ true → any f (drop i xs) ≡ true
-any_stop f xs i d h e = at_drop_more (any f) xs i d h ∙ ap (λ (b : Bool). b || any f (drop (i + 1) xs)) e
+pub any_stop : {A : Type 0} (f : A → Bool) (xs : List A) (i : ℕ) (d : A) → i < length xs → f (get_or xs i d) ≡ true → list_any f (drop i xs) ≡ true
+any_stop f xs i d h e = at_drop_more (list_any f) xs i d h ∙ ap (λ (b : Bool). b || list_any f (drop (i + 1) xs)) e
 
-pub any_end : {A : Type 0} (f : A → Bool) (xs : List A) (i : ℕ) → length xs ≤ i → any f (drop i xs) ≡ false
-any_end f xs i h = at_drop_all (any f) xs i h
+pub any_end : {A : Type 0} (f : A → Bool) (xs : List A) (i : ℕ) → length xs ≤ i → list_any f (drop i xs) ≡ false
+any_end f xs i h = at_drop_all (list_any f) xs i h

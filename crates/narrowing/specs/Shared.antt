@@ -1,7 +1,7 @@
 -- What the kinds share: cuts of sets, an accepted row's parts, traces.
 use Rattle.std.specs.Prelude.{ℕ, Bool, true, cond, not, ◌&&◌, List, [], ◌∷◌, length, Ok, Err, ◌==◌, nat_eq, nat_le, nat_lt, slice_index, slice_set}
 use Rattle.sets.specs.Sets.{sift}
-use Rattle.sets.specs.Placings.{all, any}
+use Rattle.std.specs.List.{list_all, list_any}
 use Rattle.rows.specs.declared.fault.Fault.TheVariants.{Undeclared, RuleBroken}
 use Rattle.rows.specs.declared.member.Member.{Member}
 use Rattle.rows.specs.declared.trace.Trace.{Trace}
@@ -26,7 +26,7 @@ at s m = slice_index s m.voice
 -- no two elements are the same
 abbrev pub distinct : List ℕ → Bool
 distinct [] = true
-distinct (x ∷ xs) = not (any (nat_eq x) xs) && distinct xs
+distinct (x ∷ xs) = not (list_any (nat_eq x) xs) && distinct xs
 
 -- ---- acceptance
 
@@ -41,7 +41,7 @@ verdict shape declared rule = cond shape (cond declared (cond rule (Ok tt) (Err 
 
 -- all members' voices are among the first n
 abbrev pub declared : ℕ → RowData → Bool
-declared n r = all (λ m. nat_lt m.voice n) r.members
+declared n r = list_all (λ m. nat_lt m.voice n) r.members
 
 -- ---- traces
 

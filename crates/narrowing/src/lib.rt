@@ -3,7 +3,8 @@
 
 ghost use Rattle.std.specs.Prelude.{◌≡◌, nat_lt, slice_index};
 ghost use Rattle.sets.specs.Sets.{has};
-ghost use Rattle.sets.specs.Placings.{all, changed};
+ghost use Rattle.sets.specs.Placings.{changed};
+ghost use Rattle.std.specs.List.{list_all};
 ghost use Rattle.rows.specs.Views.{row_of};
 ghost use Rattle.narrowing.specs.Shared.{cut, shaped, verdict};
 
@@ -49,7 +50,7 @@ pub fn is_shaped(row: &Row, letter: u8, body_length: usize) -> bool
 
 // Whether the members' voices are all among the first `voices`.
 pub fn are_declared(members: &[Member], voices: usize) -> bool
-    ensures { result ≡ all (λ m. nat_lt m.voice voices) members.now }
+    ensures { result ≡ list_all (λ m. nat_lt m.voice voices) members.now }
 {
     for m in members {
         if usize::from(m.voice) >= voices {

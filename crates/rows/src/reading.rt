@@ -7,11 +7,8 @@ ghost use Rattle.rows.specs.Views.{row_of};
 
 use crate::bank::Bank;
 use crate::fault::RowFault;
-use crate::member::Member;
+use crate::member::{MEMBER_MARK, Member};
 use crate::row::{MOST_MEMBERS, Row};
-
-// What each member begins with.
-const MEMBER_MARK: u8 = 0x4D;
 
 // The length of the body that the letter asks for.
 fn body_length<B: Bank>(bytes: &[u8]) -> Result<usize, RowFault>

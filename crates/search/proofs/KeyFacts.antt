@@ -4,7 +4,8 @@ use Rattle.std.proofs.lemmas.Bool.{cases_Bool, cases_lt, cond-true, cond-false, 
 use Rattle.std.proofs.lemmas.List.{length-append, get_or-map, get_or_past, length-map, take_at, drop_at}
 use Rattle.sets.proofs.Membership.{has_least}
 use Rattle.sets.specs.Sets.{has, fixed, least}
-use Rattle.sets.specs.Placings.{all, Proper, Within}
+use Rattle.sets.specs.Placings.{Proper, Within}
+use Rattle.std.specs.List.{list_all}
 use Rattle.rows.specs.Rows.{RowData, Meaning}
 use Rattle.rows.specs.Laws.{Laws, Alike, Agree}
 use Rattle.stores.specs.Keys.{key, voice_word, voice_words, trace_words}
@@ -87,7 +88,7 @@ fill_at (x ∷ s) (y ∷ q) (suc i) e l = fill_at s q i (omega arith) (omega ari
 module _ (m : Meaning) (L : Laws m) where
   -- so every row holds for the one filling where it does for the other
   rows_equal : (rows : List RowData) (s t p q : List ℕ) → AllAccepted m rows (length s) → Proper s → Proper t → Alike s t → trace_words m s rows ≡ trace_words m t rows
-      → Within p s → Within q t → Agree s p q → all (λ r. m.holds r p) rows ≡ all (λ r. m.holds r q) rows
+      → Within p s → Within q t → Agree s p q → list_all (λ r. m.holds r p) rows ≡ list_all (λ r. m.holds r q) rows
   rows_equal [] s t p q o a b k e u w g = refl
   rows_equal (r ∷ rows) s t p q o a b k e u w g =
       let one : m.trace r s ≡ m.trace r t =

@@ -1,7 +1,8 @@
 -- Propagation only takes values out, keeps every placing for which all rows hold, and ends where no turn changes anything.
 use Rattle.std.proofs.Common.{◌≡◌, ℕ, zero, suc, ◌<◌, Bool, true, false, ◌⊎◌, List, [], ◌∷◌, length, sym, refl, ap, ◌∙◌, subst, inl, inr, arith}
 use Rattle.std.proofs.lemmas.Bool.{both_ways, and_parts, and_from, cases_Bool, cases_lt, not-true, not-false}
-use Rattle.sets.specs.Placings.{all, same, changed, some_empty, all_fixed, values, Proper, Within, Narrower}
+use Rattle.sets.specs.Placings.{same, changed, some_empty, all_fixed, values, Proper, Within, Narrower}
+use Rattle.std.specs.List.{list_all}
 use Rattle.rows.specs.Rows.{RowData, Meaning}
 use Rattle.rows.specs.Laws.{Laws, Accepted}
 use Rattle.search.specs.Propagation.{Round, round_from, round, rounds, propagated, size}
@@ -74,7 +75,7 @@ module _ (m : Meaning) (L : Laws m) (n : ℕ) where
       let t = m.turn r s in
       let less = L.narrows r s (accepted r s e o.0) p in
       let kept : (q : List ℕ) → Within q s → AllHold m (r ∷ rows) q → Within q t =
-      λ q w h. L.sound r s q (accepted r s e o.0) p w (and_parts (m.holds r q) (all (λ x. m.holds x q) rows) h).0 in
+      λ q w h. L.sound r s q (accepted r s e o.0) p w (and_parts (m.holds r q) (list_all (λ x. m.holds x q) rows) h).0 in
       elim (cases_Bool (changed t s)) [
         | inr c ↦
             let idle : t ≡ s = same_is t s (not-false (same t s) c) in
@@ -83,7 +84,7 @@ module _ (m : Meaning) (L : Laws m) (n : ℕ) where
             (record {
               narrowed = record {
                 narrow = more.narrowed.narrow;
-                keeps = λ q w h. more.narrowed.keeps q w (and_parts (m.holds r q) (all (λ x. m.holds x q) rows) h).1;
+                keeps = λ q w h. more.narrowed.keeps q w (and_parts (m.holds r q) (list_all (λ x. m.holds x q) rows) h).1;
               };
               due = more.due;
               over = λ a. elim (more.over a) [ inl z ↦ inl z | inr z ↦ inr (z.0, z.1, (idle, z.2)) ];
@@ -100,7 +101,7 @@ module _ (m : Meaning) (L : Laws m) (n : ℕ) where
               (record {
                 narrowed = record {
                   narrow = narrow_trans (round_from m true rows t).sets t s more.narrowed.narrow less;
-                  keeps = λ q w h. more.narrowed.keeps q (kept q w h) (and_parts (m.holds r q) (all (λ x. m.holds x q) rows) h).1;
+                  keeps = λ q w h. more.narrowed.keeps q (kept q w h) (and_parts (m.holds r q) (list_all (λ x. m.holds x q) rows) h).1;
                 };
                 due = λ a.
                     let le = size_le (round_from m true rows t).sets t (proper_words t pr) more.narrowed.narrow in
@@ -121,7 +122,7 @@ module _ (m : Meaning) (L : Laws m) (n : ℕ) where
   pub stable_holds : (rows : List RowData) (s : List ℕ) → length s ≡ n → AllAccepted m rows n → Proper s → Stable m rows s → all_fixed s ≡ true → AllHold m rows (values s)
   stable_holds [] s e o p still f = refl
   stable_holds (r ∷ rows) s e o p still f =
-      and_from (m.holds r (values s)) (all (λ x. m.holds x (values s)) rows)
+      and_from (m.holds r (values s)) (list_all (λ x. m.holds x (values s)) rows)
       (elim (cases_Bool (m.holds r (values s))) [
         | inl h ↦ h
         | inr h ↦

@@ -1,6 +1,7 @@
 -- Lawful placings, and the least of them.
 use Rattle.std.specs.Prelude.{◌≡◌, ℕ, true, ◌⊎◌, List, [], ◌∷◌}
-use Rattle.sets.specs.Placings.{all, Within, Lesser}
+use Rattle.sets.specs.Placings.{Within, Lesser}
+use Rattle.std.specs.List.{list_all}
 use Rattle.rows.specs.Rows.{RowData, Meaning}
 use Rattle.rows.specs.Laws.{Accepted}
 
@@ -11,7 +12,7 @@ AllAccepted m (r ∷ rows) n = Accepted m r n × AllAccepted m rows n
 
 -- every row holds for the placing p
 abbrev pub AllHold : Meaning → List RowData → List ℕ → Type 0
-AllHold m rows p = all (λ r. m.holds r p) rows ≡ true
+AllHold m rows p = list_all (λ r. m.holds r p) rows ≡ true
 
 -- a placing is lawful: each value is in the voice's opening set, and every row holds
 pub record Lawful (m : Meaning) (voices : List ℕ) (rows : List RowData) (p : List ℕ) : Type 0 where

@@ -1,6 +1,7 @@
 -- What propagation, the state of a search and the answers of its calls say of the placings.
 use Rattle.std.specs.Prelude.{◌≡◌, ℕ, ◌+◌, ◌*◌, ◌<◌, ◌≤◌, Bool, true, false, ◌&&◌, ◌||◌, ◌↔◌, List, [], ◌∷◌, length, take, drop, ◌==◌}
-use Rattle.sets.specs.Placings.{all, some_empty, Proper, Within, Narrower}
+use Rattle.sets.specs.Placings.{some_empty, Proper, Within, Narrower}
+use Rattle.std.specs.List.{list_all}
 use Rattle.rows.specs.Rows.{RowData, Meaning}
 use Rattle.rows.specs.Laws.{Alike, Agree}
 use Rattle.rows.specs.Bytes.{Bytes, LaidOut, total_bytes}
@@ -35,7 +36,7 @@ pub record Projects (m : Meaning) (rows : List RowData) (s t : List ℕ) : Type 
   -- the same voices are fixed, and the other sets are the same
   pub alike : Alike s t
   -- the rows hold for the same values of the other voices
-  pub same_fillings : (p q : List ℕ) → Within p s → Within q t → Agree s p q → all (λ r. m.holds r p) rows ≡ all (λ r. m.holds r q) rows
+  pub same_fillings : (p q : List ℕ) → Within p s → Within q t → Agree s p q → list_all (λ r. m.holds r p) rows ≡ list_all (λ r. m.holds r q) rows
   -- so where the first have no lawful placing, neither have the second
   pub both_fail : Lawless m s rows → Lawless m t rows
 

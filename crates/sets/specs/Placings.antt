@@ -1,15 +1,7 @@
 -- Lists of sets, one for each voice (variable), and placings (valuations), which give each voice a value.
 use Rattle.std.specs.Prelude.{◌≡◌, ℕ, ◌^◌, ◌<◌, Bool, true, false, not, ◌&&◌, ◌||◌, List, [], ◌∷◌, map, length, ◌==◌, nat_eq, slice_index, slice_index_or}
+use Rattle.std.specs.List.{list_all, list_any}
 use Rattle.sets.specs.Sets.{has, fixed, least}
-
--- each element passes, some element passes
-abbrev pub all : {A : Type 0} → (A → Bool) → List A → Bool
-all f [] = true
-all f (x ∷ xs) = f x && all f xs
-
-abbrev pub any : {A : Type 0} → (A → Bool) → List A → Bool
-any f [] = false
-any f (x ∷ xs) = f x || any f xs
 
 -- two lists of numbers are the same; the first is another than the second
 abbrev pub same : List ℕ → List ℕ → Bool
@@ -23,11 +15,11 @@ changed xs ys = not (same xs ys)
 
 -- some set has no value
 abbrev pub some_empty : List ℕ → Bool
-some_empty sets = any (λ s. nat_eq s 0) sets
+some_empty sets = list_any (λ s. nat_eq s 0) sets
 
 -- every voice is fixed
 abbrev pub all_fixed : List ℕ → Bool
-all_fixed sets = all fixed sets
+all_fixed sets = list_all fixed sets
 
 -- the values of fixed sets
 abbrev pub values : List ℕ → List ℕ

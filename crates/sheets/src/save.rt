@@ -7,11 +7,11 @@ ghost use Rattle.planner.specs.Shown.{model, store_in};
 ghost use Rattle.sheets.specs.Sheets.{voice_record, voice_records, row_records};
 ghost use Rattle.sheets.specs.Saving.{sheet_of, save_answer, save_after, LoadsAgain};
 
-use crate::marks::{END_MARK, MEMBER_MARK, VOICE_MARK};
+use crate::marks::{END_MARK, VOICE_MARK};
 use planner::refusal::Refusal;
 use planner::table::Table;
 use rows::bank::Bank;
-use rows::member::Member;
+use rows::member::{MEMBER_MARK, Member};
 use rows::row::Row;
 use sets::ValueSet;
 use stores::store::Store;

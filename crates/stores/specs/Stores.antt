@@ -1,12 +1,13 @@
 -- What a store is: the keys that it holds, and its space.
 use Rattle.std.specs.Prelude.{◌≡◌, ℕ, ◌+◌, Bool, true, false, ◌&&◌, ◌||◌, List, length, nat_le, nat_lt}
-use Rattle.sets.specs.Placings.{any, same}
+use Rattle.sets.specs.Placings.{same}
+use Rattle.std.specs.List.{list_any}
 use Rattle.stores.specs.declared.store.Stored.{Stored}
 use Rattle.stores.specs.declared.store.Stored.TheVariants.{Kept, Lost}
 
 -- the key is among these
 abbrev pub member : List ℕ → List (List ℕ) → Bool
-member k keys = any (same k) keys
+member k keys = list_any (same k) keys
 
 -- a store, by the keys that it holds, each once, and the words that it has left
 pub record View : Type 0 where
