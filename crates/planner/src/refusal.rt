@@ -1,11 +1,13 @@
 // Why a call is declined.
-ghost use Rattle.std.specs.Prelude.{◌≡◌};
+ghost use Rattle.std.specs.Prelude.{◌≡◌, Some, decimal};
 ghost use Rattle.planner.specs.Refusals.{refusal_number};
 ghost use Rattle.planner.specs.declared.refusal.Refusal.TheVariants.{Row};
 
 use rows::fault::RowFault;
+use std::error::Error;
+use std::fmt;
 
-#[derive(Clone, Copy)]
+#[derive(Clone, Copy, Debug, PartialEq, Eq)]
 pub enum Refusal {
     // Post: the bytes are no row, or the row's kind declines it
     Row(RowFault),
@@ -39,6 +41,18 @@ impl Refusal {
         }
     }
 }
+
+// A refusal is printed as its number.
+impl fmt::Display for Refusal {
+    ghost output = { λ refusal. Some (decimal (refusal_number refusal)) };
+
+    fn fmt<W: fmt::Write>(&self, f: &mut fmt::Formatter<W>) -> fmt::Result {
+        let number = self.number();
+        write!(f, "{number}")
+    }
+}
+
+impl Error for Refusal {}
 
 impl From<RowFault> for Refusal {
     ghost from_gives = { λ fault r. r ≡ Row fault };

@@ -1,6 +1,7 @@
 -- What the code's calls and answers mean.
 use Rattle.std.specs.Prelude.{List, map, vec_items}
 use Rattle.search.specs.Calls as calls
+use Rattle.planner.specs.Refusals.{refusal_number}
 use Rattle.played.specs.declared.call.Call.{Call}
 use Rattle.played.specs.declared.call.Call.TheVariants.{Declare, Post, Solve, Read, Wipe}
 use Rattle.played.specs.declared.call.Answer.{Answer}
@@ -15,7 +16,7 @@ call_of Wipe = calls.Call.wipe
 
 abbrev pub answer_of : Answer → calls.Answer
 answer_of Done = calls.Answer.done
-answer_of (Refused number) = calls.Answer.refused number
+answer_of (Refused refusal) = calls.Answer.refused (refusal_number refusal)
 answer_of (Found values) = calls.Answer.found (vec_items values)
 answer_of None = calls.Answer.none
 answer_of Stopped = calls.Answer.stopped

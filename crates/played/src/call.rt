@@ -1,4 +1,5 @@
 // The calls of a table and their answers, as values.
+use planner::refusal::Refusal;
 use sets::ValueSet;
 
 #[derive(Drop)]
@@ -18,8 +19,8 @@ pub enum Call {
 pub enum Answer {
     // a Declare, a Post or a Wipe was accepted
     Done,
-    // a call was declined, under this number
-    Refused(u8),
+    // a call was declined
+    Refused(Refusal),
     // a Solve has found these values, or that there are none, or stopped at its budget
     Found(Vec<u8>),
     None,

@@ -19,7 +19,7 @@ fn done_or_refused(res: Result<(), Refusal>) -> Answer
 {
     match res {
         Ok(()) => Answer::Done,
-        Err(refusal) => Answer::Refused(refusal.number()),
+        Err(refusal) => Answer::Refused(refusal),
     }
 }
 
@@ -35,16 +35,14 @@ fn perform_solve<B: Bank, S: Store>(
 {
     let mut values = vec![in heap; 0u8; MOST_VOICES]?;
     match table.solve(budget) {
-        Err(refusal) => Ok(Answer::Refused(refusal.number())),
-        Ok(outcome) => match outcome {
-            Outcome::Stopped => Ok(Answer::Stopped),
-            Outcome::None => Ok(Answer::None),
-            Outcome::Found => {
-                let count = table.read(&mut values).unwrap();
-                values.truncate(count);
-                Ok(Answer::Found(values))
-            }
-        },
+        Err(refusal) => Ok(Answer::Refused(refusal)),
+        Ok(Outcome::Stopped) => Ok(Answer::Stopped),
+        Ok(Outcome::None) => Ok(Answer::None),
+        Ok(Outcome::Found) => {
+            let count = table.read(&mut values).unwrap();
+            values.truncate(count);
+            Ok(Answer::Found(values))
+        }
     }
 }
 
@@ -60,7 +58,7 @@ fn perform_read<B: Bank, S: Store>(
     let mut buffer = bytes.to_vec(heap)?;
     match table.read(&mut buffer) {
         Ok(count) => Ok(Answer::Wrote(count, buffer)),
-        Err(refusal) => Ok(Answer::Refused(refusal.number())),
+        Err(refusal) => Ok(Answer::Refused(refusal)),
     }
 }
 

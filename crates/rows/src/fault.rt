@@ -4,7 +4,7 @@ ghost use Rattle.rows.specs.Numbers.{number_of, row_number_of};
 ghost use Rattle.rows.specs.declared.fault.RowFault.TheVariants.{Declined};
 
 // Why a kind declines a row.
-#[derive(Clone, Copy)]
+#[derive(Clone, Copy, Debug, PartialEq, Eq)]
 pub enum Fault {
     // a voice that the row names is not declared
     Undeclared,
@@ -25,7 +25,7 @@ impl Fault {
 }
 
 // Why bytes are declined as a row: their layout is not right, or the kind declines the row that they stand for.
-#[derive(Clone, Copy)]
+#[derive(Clone, Copy, Debug, PartialEq, Eq)]
 pub enum RowFault {
     // the letter is missing, or is none of the bank's
     UnknownLetter,
