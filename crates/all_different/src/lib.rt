@@ -130,15 +130,9 @@ impl Kind for AllDifferent {
         let members = row.members();
         let values = values_of_fixed(members, sets);
         if values.count_ones() as usize == members.len() {
-            Trace {
-                mark: 0,
-                content: 0,
-            }
+            Trace::Settled
         } else {
-            Trace {
-                mark: 1,
-                content: values,
-            }
+            Trace::Open(values)
         }
     }
 }

@@ -149,15 +149,9 @@ impl Kind for Clause {
 
     fn trace(row: &Row, sets: &[ValueSet]) -> Trace {
         if is_settled(row.members(), sets) {
-            Trace {
-                mark: 0,
-                content: 0,
-            }
+            Trace::Settled
         } else {
-            Trace {
-                mark: 1,
-                content: 0,
-            }
+            Trace::Open(0)
         }
     }
 }

@@ -7,7 +7,6 @@ ghost use Rattle.sets.specs.Sets.{has, mask};
 ghost use Rattle.sets.specs.Placings.{changed};
 ghost use Rattle.std.specs.List.{list_all};
 ghost use Rattle.rows.specs.Views.{row_of};
-ghost use Rattle.narrowing.specs.Shared.{settled, open_with};
 ghost use Rattle.element.specs.Entries.{index, result_voice, entry, reached, indexed, resulted, is_entry, element};
 ghost use Rattle.element.specs.EntriesLaws.{element_lawful};
 
@@ -135,30 +134,6 @@ fn are_entries(members: &[Member]) -> bool
     true
 }
 
-// The trace of a row that is not settled.
-fn open_with(content: u32) -> Trace
-    ensures { result ≡ open_with content }
-{
-    Trace {
-        mark: 1,
-        content: u64::from(content),
-    }
-}
-
-// The trace of a row whose voices are both fixed.
-fn both_fixed(holds: bool) -> Trace
-    ensures { result ≡ (if holds then settled else open_with 0) }
-{
-    if holds {
-        Trace {
-            mark: 0,
-            content: 0,
-        }
-    } else {
-        open_with(0)
-    }
-}
-
 // Rows whose result is the entry that the index names.
 pub struct Element;
 
@@ -196,10 +171,10 @@ impl Kind for Element {
         let index = only_value(set_of(sets, index_voice(row)));
         let result = only_value(set_of(sets, result_voice(row)));
         match (index, result) {
-            (Some(i), Some(v)) => both_fixed(is_met(row.members(), i, v)),
-            (Some(i), None) => open_with(entry_at(row.members(), i)),
-            (None, Some(v)) => open_with(v),
-            (None, None) => open_with(0),
+            (Some(i), Some(v)) if is_met(row.members(), i, v) => Trace::Settled,
+            (Some(i), None) => Trace::Open(u64::from(entry_at(row.members(), i))),
+            (None, Some(v)) => Trace::Open(u64::from(v)),
+            _ => Trace::Open(0),
         }
     }
 }

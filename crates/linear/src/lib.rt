@@ -203,16 +203,10 @@ impl Kind for Linear {
 
     fn trace(row: &Row, sets: &[ValueSet]) -> Trace {
         if total_highest(row, sets) <= bound(row) {
-            Trace {
-                mark: 0,
-                content: 0,
-            }
+            Trace::Settled
         } else {
             let sum = total_placed(row, sets) + CONTENT_OF_ZERO;
-            Trace {
-                mark: 1,
-                content: sum.unsigned_abs(),
-            }
+            Trace::Open(sum.unsigned_abs())
         }
     }
 }
