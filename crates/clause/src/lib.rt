@@ -1,7 +1,7 @@
 // The kind C: some literal is true. A literal is a member; its argument a says "the value is a" below 64, and "the value is not a - 64" from there on.
 #![tactic(auto)]
 
-ghost use Rattle.std.specs.Prelude.{◌≡◌, false, take};
+ghost use Rattle.std.specs.Prelude.{◌≡◌, refl, false, take};
 ghost use Rattle.sets.specs.Sets.{mask};
 ghost use Rattle.sets.specs.Placings.{changed};
 ghost use Rattle.std.specs.List.{list_all, list_any};
@@ -116,21 +116,17 @@ fn are_in_range(literals: &[Member]) -> bool
 pub struct Clause;
 
 impl Kind for Clause {
-    const LETTER: u8 = b'C';
-
-    const BODY_LENGTH: usize = 1;
-
     ghost meaning = { clause };
 
+    const LETTER: u8 = b'C';
+    ghost LETTER = { clause.letter };
+    ghost own_letter = { refl };
+
+    const BODY_LENGTH: usize = 1;
+    ghost BODY_LENGTH = { clause.body_length };
+    ghost own_length = { refl };
+
     ghost lawful = { clause_lawful };
-
-    fn letter_code() -> u8 {
-        Clause::LETTER
-    }
-
-    fn body_len() -> usize {
-        Clause::BODY_LENGTH
-    }
 
     fn accept(row: &Row, voices: usize) -> Result<(), Fault> {
         let shape = is_shaped(row, Clause::LETTER, Clause::BODY_LENGTH);

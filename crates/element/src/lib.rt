@@ -2,7 +2,7 @@
 // stand in the body.
 #![tactic(auto)]
 
-ghost use Rattle.std.specs.Prelude.{◌≡◌, ◌&&◌, length, if◌then◌else◌, ◌==◌, nat_lt, unsigned_abs};
+ghost use Rattle.std.specs.Prelude.{◌≡◌, refl, ◌&&◌, length, if◌then◌else◌, ◌==◌, nat_lt, unsigned_abs};
 ghost use Rattle.sets.specs.Sets.{has, mask};
 ghost use Rattle.sets.specs.Placings.{changed};
 ghost use Rattle.std.specs.List.{list_all};
@@ -138,21 +138,17 @@ fn are_entries(members: &[Member]) -> bool
 pub struct Element;
 
 impl Kind for Element {
-    const LETTER: u8 = b'E';
-
-    const BODY_LENGTH: usize = 3;
-
     ghost meaning = { element };
 
+    const LETTER: u8 = b'E';
+    ghost LETTER = { element.letter };
+    ghost own_letter = { refl };
+
+    const BODY_LENGTH: usize = 3;
+    ghost BODY_LENGTH = { element.body_length };
+    ghost own_length = { refl };
+
     ghost lawful = { element_lawful };
-
-    fn letter_code() -> u8 {
-        Element::LETTER
-    }
-
-    fn body_len() -> usize {
-        Element::BODY_LENGTH
-    }
 
     fn accept(row: &Row, voices: usize) -> Result<(), Fault> {
         let shape = is_shaped(row, Element::LETTER, Element::BODY_LENGTH);
