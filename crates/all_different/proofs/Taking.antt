@@ -4,7 +4,7 @@ use lib.Bits.{bit_or}
 use lib.Count.{ones}
 use lib.ListN.{length-map}
 use Rattle.std.proofs.lemmas.Nat.{or_lt}
-use Rattle.std.proofs.lemmas.List.{take_more, at_drop_more}
+use Rattle.std.proofs.lemmas.List.{take_more, take_rest}
 use Rattle.std.proofs.lemmas.Bool.{both_ways, eq-eqb, ne_eqb, or_left, or_right}
 use Rattle.rows.specs.declared.member.Member.{Member}
 use Rattle.sets.specs.Placings.{changed}
@@ -223,18 +223,23 @@ trace_open ms s u h a n =
 
 -- ---- voices that differ
 
--- what is left of a list of members, one member on
-voices_more : (ms : List Member) (i : ℕ) (d : Member) → i < length ms
-    → distinct (map (λ m. m.voice) (drop i ms)) ≡ (not (list_any (λ m. eqb (get_or ms i d).voice m.voice) (drop (i + 1) ms)) && distinct (map (λ m. m.voice) (drop (i + 1) ms)))
-voices_more ms i d h =
-    at_drop_more (λ (l : List Member). distinct (map (λ m. m.voice) l)) ms i d h
-    ∙ ap (λ (b : Bool). not b && distinct (map (λ m. m.voice) (drop (i + 1) ms))) (any_map (λ m. m.voice) (eqb (get_or ms i d).voice) (drop (i + 1) ms))
+-- what follows the first member, as the checker has it
+abbrev others : List Member → List Member
+others ms = take (length ms - 1) (drop 1 ms)
 
--- a member whose voice stands no more after it is passed over, and one whose voice does decides
-pub voices_on : (ms : List Member) (i : ℕ) (d : Member) → i < length ms → list_any (λ m. eqb (get_or ms i d).voice m.voice) (drop (i + 1) ms) ≡ false
-    → distinct (map (λ m. m.voice) (drop i ms)) ≡ distinct (map (λ m. m.voice) (drop (i + 1) ms))
-voices_on ms i d h e = voices_more ms i d h ∙ ap (λ (b : Bool). not b && distinct (map (λ m. m.voice) (drop (i + 1) ms))) e
+-- the members' voices differ where the first one's stands no more and the others' differ
+voices_first : (ms : List Member) → 1 ≤ length ms
+    → distinct (map (λ m. m.voice) ms) ≡ (not (list_any (λ m. eqb (get_or ms 0 nobody).voice m.voice) (others ms)) && distinct (map (λ m. m.voice) (others ms)))
+voices_first [] h = absurd (omega arith)
+voices_first (x ∷ ms) h =
+    ap (λ (b : Bool). not b && distinct (map (λ m. m.voice) ms)) (any_map (λ m. m.voice) (eqb x.voice) ms)
+    ∙ ap (λ (l : List Member). not (list_any (λ m. eqb x.voice m.voice) l) && distinct (map (λ m. m.voice) l)) (sym (take_rest (x ∷ ms) 1))
 
-pub voices_stop : (ms : List Member) (i : ℕ) (d : Member) → i < length ms → list_any (λ m. eqb (get_or ms i d).voice m.voice) (drop (i + 1) ms) ≡ true
-    → distinct (map (λ m. m.voice) (drop i ms)) ≡ false
-voices_stop ms i d h e = voices_more ms i d h ∙ ap (λ (b : Bool). not b && distinct (map (λ m. m.voice) (drop (i + 1) ms))) e
+-- whether the first one's voice stands again, b, decides, or is passed over
+pub voices_stop : (ms : List Member) (b : Bool) → 1 ≤ length ms → b ≡ list_any (λ m. eqb (get_or ms 0 nobody).voice m.voice) (others ms) → b ≡ true
+    → distinct (map (λ m. m.voice) ms) ≡ false
+voices_stop ms b h e k = voices_first ms h ∙ ap (λ (x : Bool). not x && distinct (map (λ m. m.voice) (others ms))) (sym e ∙ k)
+
+pub voices_on : (ms : List Member) (b : Bool) → 1 ≤ length ms → b ≡ list_any (λ m. eqb (get_or ms 0 nobody).voice m.voice) (others ms) → b ≡ false
+    → distinct (map (λ m. m.voice) (others ms)) ≡ distinct (map (λ m. m.voice) ms)
+voices_on ms b h e k = sym (voices_first ms h ∙ ap (λ (x : Bool). not x && distinct (map (λ m. m.voice) (others ms))) (sym e ∙ k))

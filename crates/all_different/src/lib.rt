@@ -1,7 +1,7 @@
 // The kind A, all different: the values of a row's members differ.
 #![tactic(auto)]
 
-ghost use Rattle.std.specs.Prelude.{◌≡◌, map, nat_eq, unsigned_abs};
+ghost use Rattle.std.specs.Prelude.{◌≡◌, refl, map, nat_eq, unsigned_abs};
 ghost use Rattle.sets.specs.Placings.{changed};
 ghost use Rattle.std.specs.List.{list_all, list_any};
 ghost use Rattle.narrowing.specs.Shared.{at, cuts, distinct};
@@ -20,22 +20,19 @@ use sets::{ValueSet, is_fixed};
 fn have_no_arguments(members: &[Member]) -> bool
     ensures { result ≡ list_all (λ m. nat_eq (unsigned_abs m.argument) 0) members.now }
 {
-    for m in members {
-        if m.argument != 0 {
-            return false;
-        }
-    }
-    true
+    members.iter().all(|m| m.argument == 0)
 }
 
 // Whether no two members have the same voice.
 fn have_own_voices(members: &[Member]) -> bool
     ensures { result ≡ distinct (map (λ m. m.voice) members.now) }
 {
-    for (i, m) in members.iter().enumerate() {
-        if is_named(&members[i + 1..], m.voice) {
+    let mut left = members;
+    while let [m, rest @ ..] = left {
+        if is_named(rest, m.voice) {
             return false;
         }
+        left = rest;
     }
     true
 }
@@ -44,12 +41,7 @@ fn have_own_voices(members: &[Member]) -> bool
 fn is_named(members: &[Member], voice: u16) -> bool
     ensures { result ≡ list_any (λ m. nat_eq voice m.voice) members.now }
 {
-    for m in members {
-        if m.voice == voice {
-            return true;
-        }
-    }
-    false
+    members.iter().any(|m| voice == m.voice)
 }
 
 // Where the taker is fixed, takes its value out of the sets of the members with another voice; says whether one lost it.
@@ -88,21 +80,17 @@ fn values_of_fixed(members: &[Member], sets: &[ValueSet]) -> ValueSet
 pub struct AllDifferent;
 
 impl Kind for AllDifferent {
-    const LETTER: u8 = 0x41;
-
-    const BODY_LENGTH: usize = 1;
-
     ghost meaning = { all_different };
 
+    const LETTER: u8 = 0x41;
+    ghost LETTER = { all_different.letter };
+    ghost own_letter = { refl };
+
+    const BODY_LENGTH: usize = 1;
+    ghost BODY_LENGTH = { all_different.body_length };
+    ghost own_length = { refl };
+
     ghost lawful = { all_different_lawful };
-
-    fn letter_code() -> u8 {
-        Self::LETTER
-    }
-
-    fn body_len() -> usize {
-        Self::BODY_LENGTH
-    }
 
     // A row is accepted where it has the shape, its voices are declared, its arguments are 0 and no voice repeats.
     fn accept(row: &Row, voices: usize) -> Result<(), Fault> {
@@ -130,15 +118,9 @@ impl Kind for AllDifferent {
         let members = row.members();
         let values = values_of_fixed(members, sets);
         if values.count_ones() as usize == members.len() {
-            Trace {
-                mark: 0,
-                content: 0,
-            }
+            Trace::Settled
         } else {
-            Trace {
-                mark: 1,
-                content: values,
-            }
+            Trace::Open(values)
         }
     }
 }

@@ -1,14 +1,14 @@
 -- The steps of the code of the kind C: a literal's mask, and a look through the literals.
-use Rattle.std.proofs.Common.{◌≡◌, ℕ, ◌+◌, ◌-◌, ◌^◌, ◌<◌, ◌≤◌, Bool, true, false, cond, not, eqb, List, [], ◌∷◌, length, get_or, drop, nat_abs, sym, refl, ap, ◌∙◌, arith}
+use Rattle.std.proofs.Common.{◌≡◌, ℕ, ◌+◌, ◌-◌, ◌^◌, ◌<◌, ◌≤◌, Bool, true, false, cond, not, ◌&&◌, eqb, zero, suc, List, [], ◌∷◌, length, get_or, take, drop, position, Some, None, is_some, inl, inr, nat_abs, sym, refl, ap, ◌∙◌, arith}
 use lib.Bits.{bit_and}
-use Rattle.std.proofs.lemmas.List.{at_drop_more, at_drop_all}
-use Rattle.std.proofs.lemmas.Bool.{le-ltb}
+use Rattle.std.specs.List.{list_all, position_or_len}
+use Rattle.std.proofs.lemmas.Bool.{le-ltb, lt-ltb, cases_lt, and_parts, both_ways}
+use Rattle.std.proofs.lemmas.List.{take_rest}
+use Rattle.std.proofs.lemmas.List.Quantifiers.{position-Some}
 use Rattle.rows.specs.declared.member.Member.{Member}
 use Rattle.sets.specs.Sets.{has, mask, sift}
-use Rattle.clause.specs.Literals.{says, chosen, standing_of, units}
-use Rattle.narrowing.specs.Shared.{cut}
-use Rattle.clause.specs.declared.Standing.{Standing}
-use Rattle.clause.specs.declared.Standing.TheVariants.{None, One, Several}
+use Rattle.clause.specs.Literals.{says, chosen, refuted, stands, units}
+use Rattle.narrowing.specs.Shared.{cut, cuts}
 use Rattle.sets.proofs.Masks.{mask_is, has_not, and_sift, and_not_sift}
 use Rattle.narrowing.proofs.Masked.{members_of, masked_below}
 use Rattle.narrowing.proofs.Narrowing.{cut_same}
@@ -33,58 +33,78 @@ none_out s t f h e = ap (λ (x : ℕ). eqb x 0) (and_not_sift s t f h (masked_be
 
 -- ---- the literals that stand
 
--- what was found so far, and the literals that stand among the rest
-abbrev pub found_with : Standing → List Member → Standing
-found_with None l = standing_of l
-found_with (One m) l = standing_of (m ∷ l)
-found_with Several l = Several
+-- where none passes, none is chosen
+chosen_past : (f : Member → Bool) (ms : List Member) → length ms ≤ position_or_len f ms → chosen f ms ≡ []
+chosen_past f [] h = refl
+chosen_past f (x ∷ ms) h = go (chosen_past f ms) (f x) refl
+  where
+    step : position_or_len f (x ∷ ms) ≡ cond (not (f x)) (1 + position_or_len f ms) 0
+    step = refl
 
-found_end : (found : Standing) → found_with found [] ≡ found
-found_end None = refl
-found_end (One m) = refl
-found_end Several = refl
+    go : (length ms ≤ position_or_len f ms → chosen f ms ≡ []) → (b : Bool) → f x ≡ b → cond (f x) (x ∷ chosen f ms) (chosen f ms) ≡ []
+    go past true k = absurd (omega (arith, h, step, ap (λ (b : Bool). cond (not b) (1 + position_or_len f ms) 0) k))
+    go past false k =
+        ap (λ (b : Bool). cond b (x ∷ chosen f ms) (chosen f ms)) k
+        ∙ past (omega (arith, h, step, ap (λ (b : Bool). cond (not b) (1 + position_or_len f ms) 0) k))
 
-pub found_last : (f : Member → Bool) (found : Standing) (ms : List Member) (i : ℕ) → length ms ≤ i → found_with found (chosen f (drop i ms)) ≡ found
-found_last f found ms i h = at_drop_all (λ l. found_with found (chosen f l)) ms i h ∙ found_end found
+none_chosen : (f : Member → Bool) (ms : List Member) → position f ms ≡ None → chosen f ms ≡ []
+none_chosen f ms e = elim (cases_lt (position_or_len f ms) (length ms)) [
+  | inl l ↦ absurd (both_ways true (ap is_some (sym (ap (λ (b : Bool). cond b (Some (position_or_len f ms)) None) (lt-ltb (position_or_len f ms) (length ms) l)) ∙ e)) refl)
+  | inr l ↦ chosen_past f ms l
+]
 
--- one literal on: it stands or not
-found_next : (f : Member → Bool) (found : Standing) (ms : List Member) (i : ℕ) (d : Member) (b : Bool) → i < length ms → f (get_or ms i d) ≡ b
-    → found_with found (chosen f (drop i ms)) ≡ found_with found (cond b (get_or ms i d ∷ chosen f (drop (i + 1) ms)) (chosen f (drop (i + 1) ms)))
-found_next f found ms i d b h e =
-    at_drop_more (λ l. found_with found (chosen f l)) ms i d h
-    ∙ ap (λ (t : Bool). found_with found (cond t (get_or ms i d ∷ chosen f (drop (i + 1) ms)) (chosen f (drop (i + 1) ms)))) e
+-- up to the first that passes none is chosen
+chosen_from : (f : Member → Bool) (ms : List Member) (i : ℕ) (d : Member) → i < length ms → f (get_or ms i d) ≡ true → ((k : ℕ) → k < i → f (get_or ms k d) ≡ false)
+    → chosen f ms ≡ get_or ms i d ∷ chosen f (drop (suc i) ms)
+chosen_from f [] i d h e n = absurd (omega arith)
+chosen_from f (x ∷ ms) zero d h e n = ap (λ (b : Bool). cond b (x ∷ chosen f ms) (chosen f ms)) e
+chosen_from f (x ∷ ms) (suc i) d h e n =
+    ap (λ (b : Bool). cond b (x ∷ chosen f ms) (chosen f ms)) (n 0 (omega arith)) ∙ chosen_from f ms i d (omega arith) e (λ k l. n (suc k) (omega arith))
 
-pub found_passed : (f : Member → Bool) (found after : Standing) (ms : List Member) (i : ℕ) (d : Member) → i < length ms → f (get_or ms i d) ≡ false → after ≡ found
-    → found_with after (chosen f (drop (i + 1) ms)) ≡ found_with found (chosen f (drop i ms))
-found_passed f found after ms i d h e k = ap (λ (x : Standing). found_with x (chosen f (drop (i + 1) ms))) k ∙ sym (found_next f found ms i d false h e)
+-- where all fail the contrary, none is chosen
+chosen_none : (g : Member → Bool) (ms : List Member) → list_all g ms ≡ true → chosen (λ m. not (g m)) ms ≡ []
+chosen_none g [] e = refl
+chosen_none g (x ∷ ms) e =
+    let p = and_parts (g x) (list_all g ms) e in
+    ap (λ (b : Bool). cond (not b) (x ∷ chosen (λ m. not (g m)) ms) (chosen (λ m. not (g m)) ms)) p.0 ∙ chosen_none g ms p.1
 
--- the first that stands
-pub found_first : (f : Member → Bool) (found after : Standing) (ms : List Member) (i : ℕ) (d : Member) → i < length ms → f (get_or ms i d) ≡ true → found ≡ None
-    → after ≡ One (get_or ms i d) → found_with after (chosen f (drop (i + 1) ms)) ≡ found_with found (chosen f (drop i ms))
-found_first f found after ms i d h e k n =
-    ap (λ (x : Standing). found_with x (chosen f (drop (i + 1) ms))) n
-    ∙ sym (found_next f found ms i d true h e ∙ ap (λ (x : Standing). found_with x (get_or ms i d ∷ chosen f (drop (i + 1) ms))) k)
-
--- the second
-two_found : (found : Standing) (m : Member) (l : List Member) → (found ≡ None → ⊥) → found_with found (m ∷ l) ≡ Several
-two_found None m l k = absurd (k refl)
-two_found (One n) m l k = refl
-two_found Several m l k = refl
-
-pub found_second : (f : Member → Bool) (found : Standing) (ms : List Member) (i : ℕ) (d : Member) → i < length ms → f (get_or ms i d) ≡ true → (found ≡ None → ⊥)
-    → found_with found (chosen f (drop i ms)) ≡ Several
-found_second f found ms i d h e k = found_next f found ms i d true h e ∙ two_found found (get_or ms i d) (chosen f (drop (i + 1) ms)) k
+-- and where not all do, one literal and a chosen one are two
+units_two : (g : Member → Bool) (m : Member) (l ms : List Member) (s : List ℕ) → list_all g l ≡ false → units (m ∷ chosen (λ m. not (g m)) l) ms s ≡ s
+units_two g m [] ms s e = absurd (both_ways true e refl)
+units_two g m (x ∷ l) ms s e = go (units_two g m l ms s) (g x) refl
+  where
+    go : (list_all g l ≡ false → units (m ∷ chosen (λ m. not (g m)) l) ms s ≡ s) → (b : Bool) → g x ≡ b → units (m ∷ cond (not (g x)) (x ∷ chosen (λ m. not (g m)) l) (chosen (λ m. not (g m)) l)) ms s ≡ s
+    go two true k =
+        ap (λ (b : Bool). units (m ∷ cond (not b) (x ∷ chosen (λ m. not (g m)) l) (chosen (λ m. not (g m)) l)) ms s) k
+        ∙ two (sym (ap (λ (b : Bool). b && list_all g l) k) ∙ e)
+    go two false k = ap (λ (b : Bool). units (m ∷ cond (not b) (x ∷ chosen (λ m. not (g m)) l) (chosen (λ m. not (g m)) l)) ms s) k
 
 -- ---- the turn
 
-pub one_unit : (l ms : List Member) (m : Member) (s : List ℕ) (t : ℕ) → One m ≡ standing_of l → t ≡ mask 64 (says m) → cut m.voice (has t) s ≡ units l ms s
-one_unit [] ms m s t e k = let z : ◌≡◌ {A = ℕ} 0 1 = cc in absurd (omega arith)
-one_unit (n ∷ []) ms m s t e k =
-    let same : m ≡ n = cc in
-    cut_same m.voice (has t) (says m) s (members_of t (says m) k) ∙ ap (λ (x : Member). cut x.voice (says x) s) same
-one_unit (n ∷ (o ∷ l)) ms m s t e k = let z : ◌≡◌ {A = ℕ} 0 1 = cc in absurd (omega arith)
+-- no literal stands
+pub none_unit : (ms : List Member) (s : List ℕ) → None ≡ position (stands s) ms → cuts (λ _ _. false) (take 1 ms) s ≡ units (chosen (stands s) ms) ms s
+none_unit ms s e = ap (λ (l : List Member). units l ms s) (sym (none_chosen (stands s) ms (sym e)))
 
-pub several_unit : (l ms : List Member) (s : List ℕ) → Several ≡ standing_of l → s ≡ units l ms s
-several_unit [] ms s e = let z : ◌≡◌ {A = ℕ} 0 1 = cc in absurd (omega arith)
-several_unit (n ∷ []) ms s e = let z : ◌≡◌ {A = ℕ} 0 1 = cc in absurd (omega arith)
-several_unit (n ∷ (o ∷ l)) ms s e = refl
+-- the literals that stand, from the first on
+from_first : (ms : List Member) (d : Member) (s : List ℕ) (i : ℕ) → Some i ≡ position (stands s) ms
+    → chosen (stands s) ms ≡ get_or ms i d ∷ chosen (stands s) (drop (i + 1) ms)
+from_first ms d s i e =
+    let p = position-Some (stands s) ms i d (sym e) in
+    let next : suc i ≡ i + 1 = omega arith in
+    chosen_from (stands s) ms i d p.0 p.1 p.2 ∙ ap (λ (n : ℕ). get_or ms i d ∷ chosen (stands s) (drop n ms)) next
+
+-- one stands and no more after it
+pub one_unit : (ms : List Member) (d : Member) (s : List ℕ) (i t : ℕ) (b : Bool) → Some i ≡ position (stands s) ms
+    → b ≡ list_all (refuted s) (take (length ms - (i + 1)) (drop (i + 1) ms)) → b ≡ true → t ≡ mask 64 (says (get_or ms i d))
+    → cut (get_or ms i d).voice (has t) s ≡ units (chosen (stands s) ms) ms s
+one_unit ms d s i t b e r k c =
+    cut_same (get_or ms i d).voice (has t) (says (get_or ms i d)) s (members_of t (says (get_or ms i d)) c)
+    ∙ ap (λ (l : List Member). units (get_or ms i d ∷ l) ms s) (sym (chosen_none (refuted s) (drop (i + 1) ms) (sym (ap (list_all (refuted s)) (take_rest ms (i + 1))) ∙ sym r ∙ k)))
+    ∙ ap (λ (l : List Member). units l ms s) (sym (from_first ms d s i e))
+
+-- another stands after the first
+pub several_unit : (ms : List Member) (d : Member) (s : List ℕ) (i : ℕ) (b : Bool) → Some i ≡ position (stands s) ms
+    → b ≡ list_all (refuted s) (take (length ms - (i + 1)) (drop (i + 1) ms)) → b ≡ false → s ≡ units (chosen (stands s) ms) ms s
+several_unit ms d s i b e r k =
+    sym (units_two (refuted s) (get_or ms i d) (drop (i + 1) ms) ms s (sym (ap (list_all (refuted s)) (take_rest ms (i + 1))) ∙ sym r ∙ k))
+    ∙ ap (λ (l : List Member). units l ms s) (sym (from_first ms d s i e))

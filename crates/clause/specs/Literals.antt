@@ -5,8 +5,6 @@ use Rattle.sets.specs.Sets.{sift}
 use Rattle.std.specs.List.{list_all, list_any}
 use Rattle.rows.specs.declared.member.Member.{Member}
 use Rattle.rows.specs.Rows.{RowData, KindMeaning}
-use Rattle.clause.specs.declared.Standing.{Standing}
-use Rattle.clause.specs.declared.Standing.TheVariants.{None, One, Several}
 use Rattle.narrowing.specs.Shared.{cuts, at, shaped, verdict, declared, settled, open_with}
 
 -- what the literal says of the voice's value: it is the argument; from 64 on, it is not the argument less 64
@@ -28,12 +26,6 @@ stands s m = not (refuted s m)
 abbrev pub chosen : {A : Type 0} → (A → Bool) → List A → List A
 chosen f [] = []
 chosen f (x ∷ xs) = cond (f x) (x ∷ chosen f xs) (chosen f xs)
-
--- of the literals that stand: none, the one, or several
-abbrev pub standing_of : List Member → Standing
-standing_of [] = None
-standing_of (m ∷ []) = One m
-standing_of (m ∷ (n ∷ rest)) = Several
 
 -- by the literals that are not refuted: none, and the first member's set becomes empty; one, and its set loses the values that make it false
 abbrev pub units : List Member → List Member → List ℕ → List ℕ

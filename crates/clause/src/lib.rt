@@ -1,12 +1,12 @@
 // The kind C: some literal is true. A literal is a member; its argument a says "the value is a" below 64, and "the value is not a - 64" from there on.
 #![tactic(auto)]
 
-ghost use Rattle.std.specs.Prelude.{◌≡◌, false, take};
+ghost use Rattle.std.specs.Prelude.{◌≡◌, refl, false, take, position};
 ghost use Rattle.sets.specs.Sets.{mask};
 ghost use Rattle.sets.specs.Placings.{changed};
 ghost use Rattle.std.specs.List.{list_all, list_any};
 ghost use Rattle.narrowing.specs.Shared.{cuts};
-ghost use Rattle.clause.specs.Literals.{says, refuted, certain, stands, standing_of, chosen, in_range, clause};
+ghost use Rattle.clause.specs.Literals.{says, refuted, certain, stands, in_range, clause};
 ghost use Rattle.clause.specs.LiteralsLaws.{clause_lawful};
 
 use narrowing::{are_declared, is_shaped, judge, keep_only, set_of};
@@ -43,28 +43,18 @@ fn is_certain(literal: Member, sets: &[ValueSet]) -> bool
     set_of(sets, literal.voice) & !true_values(literal) == 0
 }
 
-// How many literals are not refuted: none, one, or several.
-#[derive(Clone, Copy)]
-enum Standing {
-    None,
-    One(Member),
-    Several,
+// The place of the first literal that is not refuted.
+fn first_standing(literals: &[Member], sets: &[ValueSet]) -> Option<usize>
+    ensures { result ≡ position (stands sets.now) literals.now }
+{
+    literals.iter().position(|m| !is_refuted(*m, sets))
 }
 
-// Looks through the literals up to the second that is not refuted.
-fn find_standing(literals: &[Member], sets: &[ValueSet]) -> Standing
-    ensures { result ≡ standing_of (chosen (stands sets.now) literals.now) }
+// Whether all literals are refuted.
+fn are_refuted(literals: &[Member], sets: &[ValueSet]) -> bool
+    ensures { result ≡ list_all (refuted sets.now) literals.now }
 {
-    let mut found = Standing::None;
-    for m in literals {
-        if !is_refuted(*m, sets) {
-            match found {
-                Standing::None => found = Standing::One(*m),
-                _ => return Standing::Several,
-            }
-        }
-    }
-    found
+    literals.iter().all(|m| is_refuted(*m, sets))
 }
 
 // Empties the set of the first literal's voice; says whether a value went.
@@ -82,12 +72,7 @@ fn empty_first(literals: &[Member], sets: &mut [ValueSet]) -> bool
 fn is_settled(literals: &[Member], sets: &[ValueSet]) -> bool
     ensures { result ≡ list_any (certain sets.now) literals.now }
 {
-    for m in literals {
-        if is_certain(*m, sets) {
-            return true;
-        }
-    }
-    false
+    literals.iter().any(|m| is_certain(*m, sets))
 }
 
 // The greatest argument of a literal.
@@ -97,40 +82,35 @@ const LAST_ARGUMENT: i16 = 127;
 fn is_in_range(literal: Member) -> bool
     ensures { result ≡ in_range literal }
 {
-    literal.argument >= 0 && literal.argument <= LAST_ARGUMENT
+    (0..=LAST_ARGUMENT).contains(&literal.argument)
 }
 
 // Whether all literals' arguments are.
 fn are_in_range(literals: &[Member]) -> bool
     ensures { result ≡ list_all in_range literals.now }
 {
-    for m in literals {
-        if !is_in_range(*m) {
-            return false;
-        }
-    }
-    true
+    literals.iter().all(|m| is_in_range(*m))
 }
 
 // Rows of which some literal is true.
 pub struct Clause;
 
 impl Kind for Clause {
+    ghost meaning = { clause };
+
     const LETTER: u8 = b'C';
+
+    ghost LETTER = { clause.letter };
+
+    ghost own_letter = { refl };
 
     const BODY_LENGTH: usize = 1;
 
-    ghost meaning = { clause };
+    ghost BODY_LENGTH = { clause.body_length };
+
+    ghost own_length = { refl };
 
     ghost lawful = { clause_lawful };
-
-    fn letter_code() -> u8 {
-        Clause::LETTER
-    }
-
-    fn body_len() -> usize {
-        Clause::BODY_LENGTH
-    }
 
     fn accept(row: &Row, voices: usize) -> Result<(), Fault> {
         let shape = is_shaped(row, Clause::LETTER, Clause::BODY_LENGTH);
@@ -139,25 +119,23 @@ impl Kind for Clause {
         judge(shape, declared, rule)
     }
 
+    // By the literals that are not refuted: where there are none, the first member's set becomes empty; the only one becomes true; several tell nothing.
     fn turn(row: &Row, sets: &mut [ValueSet]) -> bool {
-        match find_standing(row.members(), sets) {
-            Standing::None => empty_first(row.members(), sets),
-            Standing::One(m) => keep_only(sets, m.voice, true_values(m)),
-            Standing::Several => false,
+        let literals = row.members();
+        let Some(first) = first_standing(literals, sets) else {
+            return empty_first(literals, sets);
+        };
+        if !are_refuted(&literals[first + 1..], sets) {
+            return false;
         }
+        keep_only(sets, literals[first].voice, true_values(literals[first]))
     }
 
     fn trace(row: &Row, sets: &[ValueSet]) -> Trace {
         if is_settled(row.members(), sets) {
-            Trace {
-                mark: 0,
-                content: 0,
-            }
+            Trace::Settled
         } else {
-            Trace {
-                mark: 1,
-                content: 0,
-            }
+            Trace::Open(0)
         }
     }
 }

@@ -7,6 +7,7 @@ use Rattle.rows.specs.Laws.{Laws}
 use Rattle.rows.specs.Rows.{alone, RowData}
 use Rattle.rows.specs.declared.member.Member.{Member}
 use Rattle.rows.specs.declared.trace.Trace.{Trace}
+use Rattle.rows.specs.Traces.{content_word}
 use Rattle.sets.specs.Placings.{some_empty, all_fixed, Proper, Within, Narrower, values}
 use Rattle.sets.specs.Sets.{has, fixed, least}
 use Rattle.element.specs.Entries.{index, result_voice, entry, reached, indexed, resulted, meets, element_trace, element, element_rule}
@@ -127,10 +128,10 @@ projects r s t p q w lx ly e = go (at_twins s t p q (index r) w lx) (at_twins s 
         ∙ sym (ap₂ (meets r) x.val_t y.val_t)
     go (inl x) (inr y) =
         meets_entry r (slice_index p (index r)) (slice_index p (result_voice r)) low_p
-        ∙ ap₂ nat_eq y.same (ap (entry r.members) x.val_s ∙ ap (λ (z : Trace). z.content) (known true false x.fix_s x.fix_t y.open_s y.open_t) ∙ sym (ap (entry r.members) x.val_t))
+        ∙ ap₂ nat_eq y.same (ap (entry r.members) x.val_s ∙ ap content_word (known true false x.fix_s x.fix_t y.open_s y.open_t) ∙ sym (ap (entry r.members) x.val_t))
         ∙ sym (meets_entry r (slice_index q (index r)) (slice_index q (result_voice r)) low_q)
     go (inr x) (inl y) =
-        ap₂ (meets r) x.same (y.val_s ∙ ap (λ (z : Trace). z.content) (known false true x.open_s x.open_t y.fix_s y.fix_t) ∙ sym y.val_t)
+        ap₂ (meets r) x.same (y.val_s ∙ ap content_word (known false true x.open_s x.open_t y.fix_s y.fix_t) ∙ sym y.val_t)
     go (inr x) (inr y) = ap₂ (meets r) x.same y.same
 
 stays : (r : RowData) (n k : ℕ) → element.accepts r n ≡ Ok tt → element.accepts r (n + k) ≡ Ok tt

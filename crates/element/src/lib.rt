@@ -2,12 +2,11 @@
 // stand in the body.
 #![tactic(auto)]
 
-ghost use Rattle.std.specs.Prelude.{◌≡◌, ◌&&◌, length, if◌then◌else◌, ◌==◌, nat_lt, unsigned_abs};
+ghost use Rattle.std.specs.Prelude.{◌≡◌, refl, ◌&&◌, length, if◌then◌else◌, ◌==◌, nat_lt, unsigned_abs};
 ghost use Rattle.sets.specs.Sets.{has, mask};
 ghost use Rattle.sets.specs.Placings.{changed};
 ghost use Rattle.std.specs.List.{list_all};
 ghost use Rattle.rows.specs.Views.{row_of};
-ghost use Rattle.narrowing.specs.Shared.{settled, open_with};
 ghost use Rattle.element.specs.Entries.{index, result_voice, entry, reached, indexed, resulted, is_entry, element};
 ghost use Rattle.element.specs.EntriesLaws.{element_lawful};
 
@@ -135,49 +134,21 @@ fn are_entries(members: &[Member]) -> bool
     true
 }
 
-// The trace of a row that is not settled.
-fn open_with(content: u32) -> Trace
-    ensures { result ≡ open_with content }
-{
-    Trace {
-        mark: 1,
-        content: u64::from(content),
-    }
-}
-
-// The trace of a row whose voices are both fixed.
-fn both_fixed(holds: bool) -> Trace
-    ensures { result ≡ (if holds then settled else open_with 0) }
-{
-    if holds {
-        Trace {
-            mark: 0,
-            content: 0,
-        }
-    } else {
-        open_with(0)
-    }
-}
-
 // Rows whose result is the entry that the index names.
 pub struct Element;
 
 impl Kind for Element {
-    const LETTER: u8 = b'E';
-
-    const BODY_LENGTH: usize = 3;
-
     ghost meaning = { element };
 
+    const LETTER: u8 = b'E';
+    ghost LETTER = { element.letter };
+    ghost own_letter = { refl };
+
+    const BODY_LENGTH: usize = 3;
+    ghost BODY_LENGTH = { element.body_length };
+    ghost own_length = { refl };
+
     ghost lawful = { element_lawful };
-
-    fn letter_code() -> u8 {
-        Element::LETTER
-    }
-
-    fn body_len() -> usize {
-        Element::BODY_LENGTH
-    }
 
     fn accept(row: &Row, voices: usize) -> Result<(), Fault> {
         let shape = is_shaped(row, Element::LETTER, Element::BODY_LENGTH);
@@ -196,10 +167,10 @@ impl Kind for Element {
         let index = only_value(set_of(sets, index_voice(row)));
         let result = only_value(set_of(sets, result_voice(row)));
         match (index, result) {
-            (Some(i), Some(v)) => both_fixed(is_met(row.members(), i, v)),
-            (Some(i), None) => open_with(entry_at(row.members(), i)),
-            (None, Some(v)) => open_with(v),
-            (None, None) => open_with(0),
+            (Some(i), Some(v)) if is_met(row.members(), i, v) => Trace::Settled,
+            (Some(i), None) => Trace::Open(u64::from(entry_at(row.members(), i))),
+            (None, Some(v)) => Trace::Open(u64::from(v)),
+            _ => Trace::Open(0),
         }
     }
 }

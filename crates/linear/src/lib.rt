@@ -1,7 +1,7 @@
 // The kind L: the sum of coefficient × value over a row's members is at most a bound.
 #![tactic(auto)]
 
-ghost use Rattle.std.specs.Prelude.{◌≡◌, ◌*◌, ◌^◌, map, length, take, pos, ◌*ℤ◌, int_le, nat_le, unsigned_abs};
+ghost use Rattle.std.specs.Prelude.{◌≡◌, refl, ◌*◌, ◌^◌, map, length, take, pos, ◌*ℤ◌, int_le, nat_le, unsigned_abs};
 ghost use Rattle.sets.specs.Sets.{mask};
 ghost use Rattle.std.specs.List.{list_all};
 ghost use Rattle.rows.specs.Views.{row_of};
@@ -164,21 +164,17 @@ fn is_in_range(row: &Row) -> bool
 pub struct Linear;
 
 impl Kind for Linear {
-    const LETTER: u8 = b'L';
-
-    const BODY_LENGTH: usize = 5;
-
     ghost meaning = { linear };
 
+    const LETTER: u8 = b'L';
+    ghost LETTER = { linear.letter };
+    ghost own_letter = { refl };
+
+    const BODY_LENGTH: usize = 5;
+    ghost BODY_LENGTH = { linear.body_length };
+    ghost own_length = { refl };
+
     ghost lawful = { linear_lawful };
-
-    fn letter_code() -> u8 {
-        Self::LETTER
-    }
-
-    fn body_len() -> usize {
-        Self::BODY_LENGTH
-    }
 
     fn accept(row: &Row, voices: usize) -> Result<(), Fault> {
         let shaped = is_shaped(row, Self::LETTER, Self::BODY_LENGTH);
@@ -203,16 +199,10 @@ impl Kind for Linear {
 
     fn trace(row: &Row, sets: &[ValueSet]) -> Trace {
         if total_highest(row, sets) <= bound(row) {
-            Trace {
-                mark: 0,
-                content: 0,
-            }
+            Trace::Settled
         } else {
             let sum = total_placed(row, sets) + CONTENT_OF_ZERO;
-            Trace {
-                mark: 1,
-                content: sum.unsigned_abs(),
-            }
+            Trace::Open(sum.unsigned_abs())
         }
     }
 }

@@ -5,7 +5,7 @@ use Rattle.std.proofs.lemmas.Bool.{eqb-true, leb-true, cases_Bool, both_ways, lt
 use Rattle.rows.specs.Laws.{barred, Lettered, Shaped, Alike, Agree}
 use Rattle.rows.specs.Rows.{KindMeaning, alone, RowData, count}
 use Rattle.rows.specs.declared.member.Member.{Member}
-use Rattle.rows.specs.declared.trace.Trace.{Trace}
+use Rattle.rows.specs.Traces.{mark_word, content_word}
 use Rattle.sets.specs.Placings.{some_empty, all_fixed, Proper, Within, Narrower}
 use Rattle.sets.specs.Sets.{fixed, least}
 use Rattle.narrowing.specs.Shared.{at, shaped, verdict, declared, settled, open_with}
@@ -129,11 +129,11 @@ at_twins s t p q i w l = elim (cases_Bool (fixed (get_or s i 0))) [
 
 pub same_mark : (a b : Bool) (c d : ℕ) → cond a settled (open_with c) ≡ cond b settled (open_with d) → a ≡ b
 same_mark true true c d e = refl
-same_mark true false c d e = absurd (apart (ap (λ (x : Trace). x.mark) e))
+same_mark true false c d e = absurd (apart (ap mark_word e))
   where
     apart : ◌≡◌ {A = ℕ} 0 1 → ⊥
     apart e = omega arith
-same_mark false true c d e = absurd (apart (ap (λ (x : Trace). x.mark) e))
+same_mark false true c d e = absurd (apart (ap mark_word e))
   where
     apart : ◌≡◌ {A = ℕ} 1 0 → ⊥
     apart e = omega arith
@@ -142,7 +142,7 @@ same_mark false false c d e = refl
 pub same_content : (a b : Bool) (c d : ℕ) → cond a settled (open_with c) ≡ cond b settled (open_with d) → a ≡ false → b ≡ false → c ≡ d
 same_content true b c d e p q = absurd (both_ways true p refl)
 same_content false true c d e p q = absurd (both_ways true q refl)
-same_content false false c d e p q = ap (λ (x : Trace). x.content) e
+same_content false false c d e p q = ap content_word e
 
 -- ---- where all is fixed
 

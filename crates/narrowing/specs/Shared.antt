@@ -5,6 +5,7 @@ use Rattle.std.specs.List.{list_all, list_any}
 use Rattle.rows.specs.declared.fault.Fault.TheVariants.{Undeclared, RuleBroken}
 use Rattle.rows.specs.declared.member.Member.{Member}
 use Rattle.rows.specs.declared.trace.Trace.{Trace}
+use Rattle.rows.specs.declared.trace.Trace.TheVariants.{Settled, Open}
 use Rattle.rows.specs.Rows.{RowData, Verdict, count}
 
 -- ---- cuts
@@ -46,7 +47,7 @@ declared n r = list_all (λ m. nat_lt m.voice n) r.members
 -- ---- traces
 
 abbrev pub settled : Trace
-settled = record { mark = 0; content = 0 }
+settled = Settled
 
 abbrev pub open_with : ℕ → Trace
-open_with c = record { mark = 1; content = c }
+open_with c = Open c

@@ -17,8 +17,7 @@ use sets::ValueSet;
 pub fn set_of(sets: &[ValueSet], voice: u16) -> ValueSet
     ensures { result ≡ slice_index sets.now voice }
 {
-    let place = usize::from(voice);
-    if place < sets.len() { sets[place] } else { 0 }
+    sets.get(usize::from(voice)).copied().unwrap_or(0)
 }
 
 // Of a voice's set only the values in `kept` stay; says whether one went.
@@ -26,14 +25,14 @@ pub fn keep_only(sets: &mut [ValueSet], voice: u16, kept: ValueSet) -> bool
     ensures after { sets.new ≡ cut voice (has kept) sets.old }
     ensures value { result ≡ changed sets.new sets.old }
 {
+    // by index: what a write through get_mut leaves of the slice, the check does not know
     let place = usize::from(voice);
     if place >= sets.len() {
         return false;
     }
     let before = sets[place];
-    let after = before & kept;
-    sets[place] = after;
-    after != before
+    sets[place] &= kept;
+    sets[place] != before
 }
 
 // Whether a row has this letter, so many body bytes, a count from 1 to 32 and that many members.
@@ -43,8 +42,7 @@ pub fn is_shaped(row: &Row, letter: u8, body_length: usize) -> bool
     let count = usize::from(row.byte(0));
     row.letter() == letter
         && row.body().len() == body_length
-        && 1 <= count
-        && count <= MOST_MEMBERS
+        && (1..=MOST_MEMBERS).contains(&count)
         && row.members().len() == count
 }
 
@@ -52,12 +50,7 @@ pub fn is_shaped(row: &Row, letter: u8, body_length: usize) -> bool
 pub fn are_declared(members: &[Member], voices: usize) -> bool
     ensures { result ≡ list_all (λ m. nat_lt m.voice voices) members.now }
 {
-    for m in members {
-        if usize::from(m.voice) >= voices {
-            return false;
-        }
-    }
-    true
+    members.iter().all(|m| usize::from(m.voice) < voices)
 }
 
 // A row's verdict, by its shape, its voices and the kind's own rule: a voice that is not declared goes before a rule that is broken.

@@ -5,6 +5,7 @@ use rows::bank::Bank;
 use rows::kind::Kind;
 use rows::reading::accept_bytes;
 use rows::row::Row;
+use rows::trace::Trace;
 use search::propagation::{has_empty, propagate};
 use sets::ValueSet;
 use std::io;
@@ -41,12 +42,9 @@ fn print_traces(rt: &HostRuntime, rows: &[Row], sets: &[ValueSet]) -> io::Result
     println!(rt; "rows (traces after)")?;
     for (i, row) in rows.iter().enumerate() {
         let kind = show::kind_name(row.letter());
-        let trace = FourKinds::trace(row, sets);
-        let content = trace.content;
-        if trace.mark == 0 {
-            println!(rt; "  {i} {kind}: settled")?;
-        } else {
-            println!(rt; "  {i} {kind}: open, content {content}")?;
+        match FourKinds::trace(row, sets) {
+            Trace::Settled => println!(rt; "  {i} {kind}: settled")?,
+            Trace::Open(content) => println!(rt; "  {i} {kind}: open, content {content}")?,
         }
     }
     Ok(())

@@ -1,5 +1,6 @@
 pub mod Numbers
 pub mod Rows
+pub mod Traces
 pub mod Laws
 pub mod Views
 pub mod Bytes

@@ -49,11 +49,7 @@ impl<K: Kind> Bank for Alone<K> {
     ghost lawful = { K.Kind.lawful };
 
     fn body_length(letter: u8) -> Option<usize> {
-        if letter == K::letter_code() {
-            Some(K::body_len())
-        } else {
-            None
-        }
+        (letter == K::LETTER).then_some(K::BODY_LENGTH)
     }
 
     fn accept(row: &Row, voices: usize) -> Result<(), Fault> {
@@ -81,12 +77,7 @@ impl<X: Bank, Y: Bank> Bank for Beside<X, Y> {
     ghost lawful = { beside_lawful X.Bank.meaning Y.Bank.meaning X.Bank.lawful Y.Bank.lawful };
 
     fn body_length(letter: u8) -> Option<usize> {
-        let first = X::body_length(letter);
-        if first.is_some() {
-            first
-        } else {
-            Y::body_length(letter)
-        }
+        X::body_length(letter).or_else(|| Y::body_length(letter))
     }
 
     fn accept(row: &Row, voices: usize) -> Result<(), Fault> {

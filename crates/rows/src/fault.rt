@@ -1,15 +1,18 @@
 // Why bytes are declined as a row, and why a kind declines a row.
-ghost use Rattle.std.specs.Prelude.{◌≡◌};
+ghost use Rattle.std.specs.Prelude.{◌≡◌, Some, decimal};
 ghost use Rattle.rows.specs.Numbers.{number_of, row_number_of};
 ghost use Rattle.rows.specs.declared.fault.RowFault.TheVariants.{Declined};
 
-// Why a kind declines a row.
+use std::error::Error;
+use std::fmt;
+
+// Why a kind declines a row, each by its refusal's number.
 #[derive(Clone, Copy, Debug, PartialEq, Eq)]
 pub enum Fault {
     // a voice that the row names is not declared
-    Undeclared,
+    Undeclared = 8,
     // a rule of the kind's own, for bound, argument, entry or repeated voice, is broken
-    RuleBroken,
+    RuleBroken = 9,
 }
 
 impl Fault {
@@ -17,12 +20,21 @@ impl Fault {
     pub fn number(self) -> u8
         ensures { result ≡ number_of self }
     {
-        match self {
-            Fault::Undeclared => 8,
-            Fault::RuleBroken => 9,
-        }
+        self as u8
     }
 }
+
+// A fault is printed as its refusal's number.
+impl fmt::Display for Fault {
+    ghost output = { λ fault. Some (decimal (number_of fault)) };
+
+    fn fmt<W: fmt::Write>(&self, f: &mut fmt::Formatter<W>) -> fmt::Result {
+        let number = self.number();
+        write!(f, "{number}")
+    }
+}
+
+impl Error for Fault {}
 
 // Why bytes are declined as a row: their layout is not right, or the kind declines the row that they stand for.
 #[derive(Clone, Copy, Debug, PartialEq, Eq)]
@@ -53,6 +65,18 @@ impl RowFault {
         }
     }
 }
+
+// A fault is printed as its refusal's number.
+impl fmt::Display for RowFault {
+    ghost output = { λ fault. Some (decimal (row_number_of fault)) };
+
+    fn fmt<W: fmt::Write>(&self, f: &mut fmt::Formatter<W>) -> fmt::Result {
+        let refusal = self.number();
+        write!(f, "{refusal}")
+    }
+}
+
+impl Error for RowFault {}
 
 impl From<Fault> for RowFault {
     ghost from_gives = { λ fault r. r ≡ Declined fault };

@@ -1,5 +1,5 @@
 // What a kind of rows owes.
-ghost use Rattle.std.specs.Prelude.{◌≡◌};
+ghost use Rattle.std.specs.Prelude.{◌≡◌, ℕ};
 ghost use Rattle.sets.specs.Placings.{changed};
 ghost use Rattle.rows.specs.Rows.{KindMeaning, alone};
 ghost use Rattle.rows.specs.Laws.{Laws};
@@ -11,20 +11,22 @@ use crate::trace::Trace;
 use sets::ValueSet;
 
 pub trait Kind {
-    // The letter that a row of this kind begins with, and how many bytes its body has.
-    const LETTER: u8;
-
-    const BODY_LENGTH: usize;
-
     // what rows of this kind mean
     ghost meaning: { KindMeaning };
 
-    // The two constants, as functions whose clauses tie them to the meaning: generic code calls these.
-    fn letter_code() -> u8
-        ensures { result ≡ meaning.letter };
+    // The letter that a row of this kind begins with.
+    const LETTER: u8;
 
-    fn body_len() -> usize
-        ensures { result ≡ meaning.body_length };
+    ghost LETTER: { ℕ };
+
+    ghost own_letter: { LETTER ≡ meaning.letter };
+
+    // How many bytes the body of such a row has.
+    const BODY_LENGTH: usize;
+
+    ghost BODY_LENGTH: { ℕ };
+
+    ghost own_length: { BODY_LENGTH ≡ meaning.body_length };
 
     // Whether a row is one of this kind, in a table of so many voices.
     fn accept(row: &Row, voices: usize) -> Result<(), Fault>

@@ -14,31 +14,28 @@ use crate::row::{MOST_MEMBERS, Row};
 fn body_length<B: Bank>(bytes: &[u8]) -> Result<usize, RowFault>
     ensures { result ≡ checked (lettered B.Bank.meaning bytes.now) UnknownLetter (Ok (B.Bank.meaning.body_length (letter_byte bytes.now))) }
 {
-    if bytes.is_empty() {
-        return Err(RowFault::UnknownLetter);
-    }
-    B::body_length(bytes[0]).ok_or(RowFault::UnknownLetter)
+    bytes
+        .first()
+        .and_then(|letter| B::body_length(*letter))
+        .ok_or(RowFault::UnknownLetter)
 }
 
 // The count of members.
 fn member_count(bytes: &[u8]) -> Result<usize, RowFault>
     ensures { result ≡ checked (counted bytes.now) BadCount (Ok (count_byte bytes.now)) }
 {
-    if bytes.len() < 2 {
-        return Err(RowFault::BadCount);
-    }
-    let count = usize::from(bytes[1]);
-    if 1 <= count && count <= MOST_MEMBERS {
-        Ok(count)
-    } else {
-        Err(RowFault::BadCount)
-    }
+    bytes
+        .get(1)
+        .map(|count| usize::from(*count))
+        .filter(|count| (1..=MOST_MEMBERS).contains(count))
+        .ok_or(RowFault::BadCount)
 }
 
 // Whether each member, of four bytes, has its mark.
 fn are_marked(bytes: &[u8]) -> bool
     ensures { result ≡ marked bytes.now }
 {
+    // a loop by pattern, as in push_members: of chunks_exact with all the check knows too little for the clause
     let mut left = bytes;
     while let [mark, _voice, _low, _high, rest @ ..] = left {
         if *mark != MEMBER_MARK {

@@ -7,7 +7,10 @@ use Rattle.sets.specs.Sets.{has, fixed, least}
 use Rattle.sets.specs.Placings.{Proper, Within}
 use Rattle.std.specs.List.{list_all}
 use Rattle.rows.specs.Rows.{RowData, Meaning}
+use Rattle.rows.specs.declared.trace.Trace.{Trace}
+use Rattle.rows.specs.declared.trace.Trace.TheVariants.{Settled, Open}
 use Rattle.rows.specs.Laws.{Laws, Alike, Agree}
+use Rattle.rows.specs.Traces.{mark_word, content_word}
 use Rattle.stores.specs.Keys.{key, voice_word, voice_words, trace_words}
 use Rattle.search.specs.Placed.{AllAccepted, AllHold}
 use Rattle.search.specs.Results.{Projects}
@@ -85,6 +88,13 @@ fill_at (x ∷ s) [] i e l = absurd (omega arith)
 fill_at (x ∷ s) (y ∷ q) zero e l = refl
 fill_at (x ∷ s) (y ∷ q) (suc i) e l = fill_at s q i (omega arith) (omega arith)
 
+-- traces with the same words are the same
+same_trace : (a b : Trace) → mark_word a ≡ mark_word b → content_word a ≡ content_word b → a ≡ b
+same_trace Settled Settled d e = refl
+same_trace Settled (Open c) d e = absurd (omega (arith, d))
+same_trace (Open c) Settled d e = absurd (omega (arith, d))
+same_trace (Open c) (Open k) d e = ap Open e
+
 module _ (m : Meaning) (L : Laws m) where
   -- so every row holds for the one filling where it does for the other
   rows_equal : (rows : List RowData) (s t p q : List ℕ) → AllAccepted m rows (length s) → Proper s → Proper t → Alike s t → trace_words m s rows ≡ trace_words m t rows
@@ -92,7 +102,7 @@ module _ (m : Meaning) (L : Laws m) where
   rows_equal [] s t p q o a b k e u w g = refl
   rows_equal (r ∷ rows) s t p q o a b k e u w g =
       let one : m.trace r s ≡ m.trace r t =
-      λ i. record { mark = ap (λ (x : List ℕ). get_or x 0 0) e i; content = ap (λ (x : List ℕ). get_or x 1 0) e i } in
+      same_trace (m.trace r s) (m.trace r t) (ap (λ (x : List ℕ). get_or x 0 0) e) (ap (λ (x : List ℕ). get_or x 1 0) e) in
       ap₂ (λ (x y : Bool). x && y) (L.projects r s t p q o.0 a b k one u w g) (rows_equal rows s t p q o.1 a b k (ap (drop 2) e) u w g)
 
   pub key_fails : (rows : List RowData) (s t : List ℕ) → AllAccepted m rows (length s) → Proper s → Proper t → length s ≡ length t → key m rows s ≡ key m rows t → Fails m rows s → Fails m rows t

@@ -3,6 +3,7 @@ use Rattle.std.proofs.Common.{◌≡◌, ℕ, ◌+◌, ◌*◌, ◌<◌, ◌≤�
 use Rattle.std.proofs.lemmas.List.{drop_more, set_at, append_assoc, length_push, length-append, length-map, length-take-le, map_more, take_at, drop_at, drop-drop, take_more, take_more_set, take_all, drop-set-lt, append-nil, take-append-drop}
 use Rattle.rows.specs.declared.row.Row.{Row}
 use Rattle.rows.specs.Rows.{RowData, Meaning}
+use Rattle.rows.specs.Traces.{mark_word, content_word}
 use Rattle.rows.specs.Views.{row_of, rows_of}
 use Rattle.stores.specs.Keys.{voice_word, voice_words, trace_words, key}
 
@@ -14,9 +15,9 @@ put_more done old i v e h =
     ∙ sym (append_assoc done (v ∷ []) (drop (i + 1) old))
 
 pub trace_push : (m : Meaning) (s : List ℕ) (rows : List RowData) (r : RowData)
-    → trace_words m s (rows ++ (r ∷ [])) ≡ trace_words m s rows ++ ((m.trace r s).mark ∷ ((m.trace r s).content ∷ []))
+    → trace_words m s (rows ++ (r ∷ [])) ≡ trace_words m s rows ++ (mark_word (m.trace r s) ∷ (content_word (m.trace r s) ∷ []))
 trace_push m s [] r = refl
-trace_push m s (x ∷ rows) r = ap (λ (l : List ℕ). (m.trace x s).mark ∷ ((m.trace x s).content ∷ l)) (trace_push m s rows r)
+trace_push m s (x ∷ rows) r = ap (λ (l : List ℕ). mark_word (m.trace x s) ∷ (content_word (m.trace x s) ∷ l)) (trace_push m s rows r)
 
 pub trace_length : (m : Meaning) (s : List ℕ) (rows : List RowData) → length (trace_words m s rows) ≡ 2 * length rows
 trace_length m s [] = refl
@@ -45,7 +46,7 @@ two_more done old at mark content long k =
 -- the traces, one more
 pub traces_more : (m : Meaning) (s : List ℕ) (rows : List Row) (i : ℕ) (r : Row) (front old words : List ℕ) (from at mark content : ℕ)
     → i < length rows → r ≡ get_or rows i r → length front ≡ from → at ≡ from + 2 * i → at + 1 < length old
-    → mark ≡ (m.trace (row_of r) s).mark → content ≡ (m.trace (row_of r) s).content
+    → mark ≡ mark_word (m.trace (row_of r) s) → content ≡ content_word (m.trace (row_of r) s)
     → words ≡ (front ++ trace_words m s (rows_of (take i rows))) ++ drop at old
     → set (set words at mark) (at + 1) content ≡ (front ++ trace_words m s (rows_of (take (i + 1) rows))) ++ drop (at + 2) old
 traces_more m s rows i r front old words from at mark content h is e a k p q w =

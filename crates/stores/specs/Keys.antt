@@ -2,6 +2,7 @@
 use Rattle.std.specs.Prelude.{ℕ, cond, List, [], ◌∷◌, ◌++◌, map, length, drop, Some, None, Option, nat_le}
 use Rattle.sets.specs.Sets.{fixed}
 use Rattle.rows.specs.Rows.{RowData, Meaning}
+use Rattle.rows.specs.Traces.{mark_word, content_word}
 
 -- a voice's word: 0 where it is fixed, otherwise its set
 abbrev pub voice_word : ℕ → ℕ
@@ -13,7 +14,7 @@ voice_words sets = map voice_word sets
 -- each row's trace, mark and content, in row order
 abbrev pub trace_words : Meaning → List ℕ → List RowData → List ℕ
 trace_words m sets [] = []
-trace_words m sets (r ∷ rows) = (m.trace r sets).mark ∷ ((m.trace r sets).content ∷ trace_words m sets rows)
+trace_words m sets (r ∷ rows) = mark_word (m.trace r sets) ∷ (content_word (m.trace r sets) ∷ trace_words m sets rows)
 
 abbrev pub key : Meaning → List RowData → List ℕ → List ℕ
 key m rows sets = voice_words sets ++ trace_words m sets rows

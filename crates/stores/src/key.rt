@@ -24,9 +24,9 @@ fn write_traces<B: Bank>(rows: &[Row], sets: &[ValueSet], words: &mut [u64], fro
 {
     let mut at = from;
     for row in rows {
-        let trace = B::trace(row, sets);
-        words[at] = u64::from(trace.mark);
-        words[at + 1] = trace.content;
+        let [mark, content] = B::trace(row, sets).words();
+        words[at] = mark;
+        words[at + 1] = content;
         at += 2;
     }
 }

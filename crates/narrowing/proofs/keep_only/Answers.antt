@@ -1,5 +1,6 @@
-use Rattle.std.proofs.Common.{◌≡◌, ◌^◌, ◌<◌, ◌≤◌, length, get_or, set, sym, ap, ◌∙◌, rules}
+use Rattle.std.proofs.Common.{◌≡◌, not, eqb, ◌^◌, ◌<◌, ◌≤◌, length, get_or, set, sym, ap, ◌∙◌, rules}
 use lib.Bits.{bit_and}
+use Rattle.std.proofs.lemmas.List.{get_or-set_same}
 use Rattle.sets.specs.Sets.{has}
 use Rattle.narrowing.proofs.Cuts.{cut_past}
 use Rattle.narrowing.proofs.Narrowing.{cut_and, changed_set, unchanged}
@@ -21,5 +22,7 @@ returns c =
     record {
       after = ap (λ p. set c.args.sets.now p (bit_and (get_or c.args.sets.now p 0) c.args.kept)) at
           ∙ sym (cut_and c.args.voice c.args.kept c.args.sets.now fits);
-      value = sym (changed_set c.args.sets.now c.from-place.result (bit_and (get_or c.args.sets.now c.from-place.result 0) c.args.kept) here);
+      value = ap (λ x. not (eqb x (get_or c.args.sets.now c.from-place.result 0)))
+          (get_or-set_same c.args.sets.now c.from-place.result (bit_and (get_or c.args.sets.now c.from-place.result 0) c.args.kept) 0 here)
+          ∙ sym (changed_set c.args.sets.now c.from-place.result (bit_and (get_or c.args.sets.now c.from-place.result 0) c.args.kept) here);
     }

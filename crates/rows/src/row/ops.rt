@@ -79,7 +79,7 @@ impl Row {
     pub fn byte(&self, i: usize) -> u8
         ensures { result ≡ slice_index (row_of self.now).body i }
     {
-        if i < self.body.len() { self.body[i] } else { 0 }
+        self.body.get(i).copied().unwrap_or(0)
     }
 
     // How many bytes the row is written in.

@@ -1,23 +1,27 @@
-use Rattle.std.proofs.Common.{vec_items, sym, ap, ◌∙◌}
-use Rattle.clause.specs.Literals.{stands, chosen, standing_of}
+use Rattle.std.proofs.Common.{List, sym, ap, ◌∙◌}
+use Rattle.rows.specs.declared.member.Member.{Member}
+use Rattle.clause.specs.Literals.{stands, chosen, units}
 use Rattle.narrowing.proofs.Narrowing.{unchanged}
-use Rattle.clause.proofs.LiteralSteps.{one_unit, several_unit}
+use Rattle.narrowing.proofs.Scans.{nobody}
+use Rattle.clause.proofs.LiteralSteps.{none_unit, one_unit, several_unit}
 use Rattle.clause.proofs.ClauseKind.turn.Goals as goal
 
-pub returns-in-One : goal.returns-in-One
-returns-in-One c =
-    let ms = vec_items c.args.row.now.members in
-    let standing = c.in-One.ensures ∙ ap (λ l. standing_of (chosen (stands c.args.sets.now) l)) c.members.ensures in
-    record {
-      after = c.keep_only.ensures.after ∙ one_unit (chosen (stands c.args.sets.now) ms) ms c.in-One.m c.args.sets.now c.true_values.result standing c.true_values.ensures;
-      value = c.keep_only.ensures.value;
-    }
+pub returns-in_default-clause-after : goal.returns-in_default-clause-after
+returns-in_default-clause-after c =
+    c.empty_first.ensures.after
+    ∙ none_unit c.members-literals.result.now c.args.sets.now c.in_default.ensures
+    ∙ ap (λ (l : List Member). units (chosen (stands c.args.sets.now) l) l c.args.sets.now) c.members-literals.ensures
 
-pub returns-in-Several : goal.returns-in-Several
-returns-in-Several c =
-    let ms = vec_items c.args.row.now.members in
-    let standing = c.in-Several.ensures ∙ ap (λ l. standing_of (chosen (stands c.args.sets.now) l)) c.members.ensures in
-    record {
-      after = several_unit (chosen (stands c.args.sets.now) ms) ms c.args.sets.now standing;
-      value = sym (unchanged c.args.sets.now);
-    }
+pub returns-then-not-are_refuted-clause-after : goal.returns-then-not-are_refuted-clause-after
+returns-then-not-are_refuted-clause-after c =
+    several_unit c.members-literals.result.now nobody c.args.sets.now c.in-Some.first c.are_refuted.result c.in-Some.ensures c.are_refuted.ensures c.if-not-are_refuted.true
+    ∙ ap (λ (l : List Member). units (chosen (stands c.args.sets.now) l) l c.args.sets.now) c.members-literals.ensures
+
+pub returns-then-not-are_refuted-clause-value : goal.returns-then-not-are_refuted-clause-value
+returns-then-not-are_refuted-clause-value c = sym (unchanged c.args.sets.now)
+
+pub returns-clause-after : goal.returns-clause-after
+returns-clause-after c =
+    c.keep_only.ensures.after
+    ∙ one_unit c.members-literals.result.now nobody c.args.sets.now c.in-Some.first c.true_values.result c.are_refuted.result c.in-Some.ensures c.are_refuted.ensures c.if-not-are_refuted.false c.true_values.ensures
+    ∙ ap (λ (l : List Member). units (chosen (stands c.args.sets.now) l) l c.args.sets.now) c.members-literals.ensures
