@@ -1,11 +1,13 @@
 // The kind L: the sum of coefficient × value over a row's members is at most a bound.
 #![tactic(auto)]
 
-ghost use Rattle.std.specs.Prelude.{◌≡◌, refl, ◌*◌, ◌^◌, map, length, take, pos, ◌*ℤ◌, int_le, nat_le, unsigned_abs};
-ghost use Rattle.sets.specs.Sets.{mask};
+ghost use Rattle.std.specs.Prelude.{◌≡◌, refl, ℕ, ℤ, List, ◌*◌, ◌^◌, ◌≤◌, map, length, take, pos, ◌*ℤ◌, int_le, nat_le, unsigned_abs, if◌then◌else◌};
+ghost use Rattle.sets.specs.Sets.{mask, least, greatest};
+ghost use Rattle.narrowing.specs.Shared.{at};
+ghost use Rattle.rows.specs.declared.member.Member.{Member};
 ghost use Rattle.std.specs.List.{list_all};
 ghost use Rattle.rows.specs.Views.{row_of};
-ghost use Rattle.linear.specs.Sums.{bound as bound_of, low, high, placed as placed_of, total, linear_rule, linear, Near};
+ghost use Rattle.linear.specs.Sums.{bound as bound_of, low, high, placed as placed_of, term, total, linear_rule, linear, Near};
 ghost use Rattle.linear.specs.SumsLaws.{linear_lawful};
 
 use narrowing::{are_declared, is_shaped, judge, keep_only, set_of};
@@ -42,43 +44,76 @@ fn product(coefficient: i16, value: u32) -> i64
     i64::from(coefficient) * i64::from(value)
 }
 
-// The least that a member adds with a value of its set.
-fn lowest(member: Member, sets: &[ValueSet]) -> i64
-    ensures value { result ≡ low sets.now member }
+// What a member adds to a sum, by the set of its voice: so little that no sum of a row's members overflows.
+trait Term {
+    ghost term: { List ℕ → Member → ℤ };
+
+    fn of(member: Member, sets: &[ValueSet]) -> i64
+        ensures value { result ≡ term sets.now member }
+        ensures near { Near (32768 * 64) result };
+}
+
+// Coefficient × the greatest value of the member's set, or the least.
+fn at_end(member: Member, sets: &[ValueSet], upper: bool) -> i64
+    ensures value { result ≡ term member (if upper then greatest (at sets.now member) else least (at sets.now member)) }
     ensures near { Near (32768 * 64) result }
 {
     let set = set_of(sets, member.voice);
-    if member.argument >= 0 {
-        product(member.argument, sets::least_value(set))
-    } else {
+    if upper {
         product(member.argument, sets::greatest_value(set))
+    } else {
+        product(member.argument, sets::least_value(set))
+    }
+}
+
+// The least that a member adds with a value of its set.
+struct Lowest;
+
+impl Term for Lowest {
+    ghost term = { low };
+
+    fn of(member: Member, sets: &[ValueSet]) -> i64 {
+        at_end(member, sets, member.argument < 0)
     }
 }
 
 // The greatest that a member adds with a value of its set.
-fn highest(member: Member, sets: &[ValueSet]) -> i64
-    ensures value { result ≡ high sets.now member }
-    ensures near { Near (32768 * 64) result }
-{
-    let set = set_of(sets, member.voice);
-    if member.argument >= 0 {
-        product(member.argument, sets::greatest_value(set))
-    } else {
-        product(member.argument, sets::least_value(set))
+struct Highest;
+
+impl Term for Highest {
+    ghost term = { high };
+
+    fn of(member: Member, sets: &[ValueSet]) -> i64 {
+        at_end(member, sets, member.argument >= 0)
     }
 }
 
 // What a member adds where it is fixed, 0 where it is not.
-fn placed(member: Member, sets: &[ValueSet]) -> i64
-    ensures value { result ≡ placed_of sets.now member }
-    ensures near { Near (32768 * 64) result }
-{
-    let set = set_of(sets, member.voice);
-    if sets::is_fixed(set) {
-        product(member.argument, sets::least_value(set))
-    } else {
-        0
+struct Placed;
+
+impl Term for Placed {
+    ghost term = { placed_of };
+
+    fn of(member: Member, sets: &[ValueSet]) -> i64 {
+        let set = set_of(sets, member.voice);
+        if sets::is_fixed(set) {
+            product(member.argument, sets::least_value(set))
+        } else {
+            0
+        }
     }
+}
+
+// The sum of what each member adds.
+fn sum_of<T: Term>(row: &Row, sets: &[ValueSet]) -> i64
+    ensures value { result ≡ total (T.Term.term sets.now) (row_of row.now).members }
+    ensures near { Near (32 * 32768 * 64) result }
+{
+    let mut sum = 0;
+    for m in row.members() {
+        sum += T::of(*m, sets);
+    }
+    sum
 }
 
 // The values with which coefficient × value is at most the slack.
@@ -110,47 +145,20 @@ fn lowest_terms(row: &Row, sets: &[ValueSet]) -> ([i64; MOST_MEMBERS], i64)
     let mut lows = [0; MOST_MEMBERS];
     let mut sum = 0;
     for (i, m) in row.members().iter().enumerate() {
-        let term = lowest(*m, sets);
+        let term = Lowest::of(*m, sets);
         lows[i] = term;
         sum += term;
     }
     (lows, sum)
 }
 
-// The sum of the greatest that each member adds.
-fn total_highest(row: &Row, sets: &[ValueSet]) -> i64
-    ensures value { result ≡ total (high sets.now) (row_of row.now).members }
-    ensures near { Near (32 * 32768 * 64) result }
-{
-    let mut sum = 0;
-    for m in row.members() {
-        sum += highest(*m, sets);
-    }
-    sum
-}
-
-// The sum of what the fixed members add.
-fn total_placed(row: &Row, sets: &[ValueSet]) -> i64
-    ensures value { result ≡ total (placed_of sets.now) (row_of row.now).members }
-    ensures near { Near (32 * 32768 * 64) result }
-{
-    let mut sum = 0;
-    for m in row.members() {
-        sum += placed(*m, sets);
-    }
-    sum
-}
-
 // Whether the coefficients are all from -1,000 to 1,000.
 fn are_small(members: &[Member]) -> bool
     ensures { result ≡ list_all (λ m. nat_le (unsigned_abs m.argument) 1000) members.now }
 {
-    for m in members {
-        if m.argument.unsigned_abs() > LARGEST_COEFFICIENT {
-            return false;
-        }
-    }
-    true
+    members
+        .iter()
+        .all(|m| m.argument.unsigned_abs() <= LARGEST_COEFFICIENT)
 }
 
 // Whether bound and coefficients are in their ranges.
@@ -167,11 +175,15 @@ impl Kind for Linear {
     ghost meaning = { linear };
 
     const LETTER: u8 = b'L';
+
     ghost LETTER = { linear.letter };
+
     ghost own_letter = { refl };
 
     const BODY_LENGTH: usize = 5;
+
     ghost BODY_LENGTH = { linear.body_length };
+
     ghost own_length = { refl };
 
     ghost lawful = { linear_lawful };
@@ -198,10 +210,10 @@ impl Kind for Linear {
     }
 
     fn trace(row: &Row, sets: &[ValueSet]) -> Trace {
-        if total_highest(row, sets) <= bound(row) {
+        if sum_of::<Highest>(row, sets) <= bound(row) {
             Trace::Settled
         } else {
-            let sum = total_placed(row, sets) + CONTENT_OF_ZERO;
+            let sum = sum_of::<Placed>(row, sets) + CONTENT_OF_ZERO;
             Trace::Open(sum.unsigned_abs())
         }
     }
