@@ -45,11 +45,9 @@ const NO_ENTRY: u32 = 64;
 fn entry_at(entries: &[Member], place: u32) -> u32
     ensures { result ≡ entry entries.now place }
 {
-    let i = place as usize;
-    if i < entries.len() {
-        value_of(entries[i])
-    } else {
-        NO_ENTRY
+    match entries.get(place as usize) {
+        Some(m) => value_of(*m),
+        None => NO_ENTRY,
     }
 }
 
@@ -57,7 +55,10 @@ fn entry_at(entries: &[Member], place: u32) -> u32
 fn is_met(entries: &[Member], place: u32, value: u32) -> bool
     ensures { result ≡ (nat_lt place (length entries.now) && value == entry entries.now place) }
 {
-    (place as usize) < entries.len() && value == entry_at(entries, place)
+    match entries.get(place as usize) {
+        Some(m) => value == value_of(*m),
+        None => false,
+    }
 }
 
 // The places of the entries that are among the results.
@@ -119,19 +120,14 @@ const LAST_VALUE: i16 = 63;
 fn is_entry(m: Member) -> bool
     ensures { result ≡ is_entry m }
 {
-    m.voice == 0 && m.argument >= 0 && m.argument <= LAST_VALUE
+    m.voice == 0 && (0..=LAST_VALUE).contains(&m.argument)
 }
 
 // Whether all members are entries.
 fn are_entries(members: &[Member]) -> bool
     ensures { result ≡ list_all is_entry members.now }
 {
-    for m in members {
-        if !is_entry(*m) {
-            return false;
-        }
-    }
-    true
+    members.iter().all(|m| is_entry(*m))
 }
 
 // Rows whose result is the entry that the index names.
@@ -141,11 +137,15 @@ impl Kind for Element {
     ghost meaning = { element };
 
     const LETTER: u8 = b'E';
+
     ghost LETTER = { element.letter };
+
     ghost own_letter = { refl };
 
     const BODY_LENGTH: usize = 3;
+
     ghost BODY_LENGTH = { element.body_length };
+
     ghost own_length = { refl };
 
     ghost lawful = { element_lawful };
