@@ -1,6 +1,7 @@
 -- Words written one after the other over a list.
 use Rattle.std.proofs.Common.{◌≡◌, ℕ, ◌+◌, ◌*◌, ◌<◌, ◌≤◌, List, [], ◌∷◌, ◌++◌, map, length, get_or, take, drop, set, sym, refl, ap, ◌∙◌, ap₂, add-zero, arith}
 use Rattle.std.proofs.lemmas.List.{drop_more, set_at, append_assoc, length_push, length-append, length-map, length-take-le, map_more, take_at, drop_at, drop-drop, take_more, take_more_set, take_all, drop-set-lt, append-nil, take-append-drop}
+use borrow.Rule.Slice.PartMut.{put_mid}
 use Rattle.rows.specs.declared.row.Row.{Row}
 use Rattle.rows.specs.Rows.{RowData, Meaning}
 use Rattle.rows.specs.Traces.{mark_word, content_word}
@@ -32,36 +33,38 @@ voices_more s old words i v h k e d =
     ∙ ap (λ (x : ℕ). (map voice_word (take i s) ++ (x ∷ [])) ++ drop (i + 1) old) d
     ∙ ap (λ (x : List ℕ). x ++ drop (i + 1) old) (sym (map_more voice_word s i 0 h))
 
--- two words more
-two_more : (done old : List ℕ) (at mark content : ℕ) → length done ≡ at → at + 1 < length old
-    → set (set (done ++ drop at old) at mark) (at + 1) content ≡ (done ++ (mark ∷ (content ∷ []))) ++ drop (at + 2) old
-two_more done old at mark content long k =
-    ap (λ (x : List ℕ). set x (at + 1) content) (put_more done old at mark long (omega arith))
-    ∙ put_more (done ++ (mark ∷ [])) old (at + 1) content (length_push done mark ∙ ap (λ (n : ℕ). n + 1) long) k
-    ∙ ap₂ (λ (x : List ℕ) (n : ℕ). x ++ drop n old) (append_assoc done (mark ∷ []) (content ∷ [])) two
+-- the traces, one more: part is what is copied over the k words from the place on
+pub traces_more : (m : Meaning) (s : List ℕ) (rows : List Row) (i : ℕ) (r : Row) (front old words part : List ℕ) (from k : ℕ)
+    → i < length rows → r ≡ get_or rows i r → length front ≡ from → k ≡ 2
+    → part ≡ mark_word (m.trace (row_of r) s) ∷ (content_word (m.trace (row_of r) s) ∷ [])
+    → words ≡ (front ++ trace_words m s (rows_of (take i rows))) ++ drop (from + 2 * i) old
+    → put_mid (from + 2 * i) k words part ≡ (front ++ trace_words m s (rows_of (take (i + 1) rows))) ++ drop (from + 2 * (i + 1)) old
+traces_more m s rows i r front old words part from k h is e two p w =
+    ap₂ (λ (x y : List ℕ). x ++ (part ++ y)) before behind
+    ∙ sym (append_assoc done part (drop (from + 2 * (i + 1)) old))
+    ∙ ap (λ (x : List ℕ). x ++ drop (from + 2 * (i + 1)) old) (append_assoc front (trace_words m s (rows_of (take i rows))) part ∙ ap (λ (x : List ℕ). front ++ x) (sym next))
   where
-    two : at + 1 + 1 ≡ at + 2
-    two = omega arith
+    done : List ℕ
+    done = front ++ trace_words m s (rows_of (take i rows))
 
--- the traces, one more
-pub traces_more : (m : Meaning) (s : List ℕ) (rows : List Row) (i : ℕ) (r : Row) (front old words : List ℕ) (from at mark content : ℕ)
-    → i < length rows → r ≡ get_or rows i r → length front ≡ from → at ≡ from + 2 * i → at + 1 < length old
-    → mark ≡ mark_word (m.trace (row_of r) s) → content ≡ content_word (m.trace (row_of r) s)
-    → words ≡ (front ++ trace_words m s (rows_of (take i rows))) ++ drop at old
-    → set (set words at mark) (at + 1) content ≡ (front ++ trace_words m s (rows_of (take (i + 1) rows))) ++ drop (at + 2) old
-traces_more m s rows i r front old words from at mark content h is e a k p q w =
-    ap (λ (x : List ℕ). set (set x at mark) (at + 1) content) w
-    ∙ two_more (front ++ trace_words m s (rows_of (take i rows))) old at mark content long k
-    ∙ ap (λ (x : List ℕ). x ++ drop (at + 2) old) (append_assoc front (trace_words m s (rows_of (take i rows))) (mark ∷ (content ∷ [])) ∙ ap (λ (x : List ℕ). front ++ x) (sym next))
-  where
-    long : length (front ++ trace_words m s (rows_of (take i rows))) ≡ at
+    long : length done ≡ from + 2 * i
     long = length-append front (trace_words m s (rows_of (take i rows)))
-        ∙ omega (arith, e, a, trace_length m s (rows_of (take i rows)), length-map (take i rows) row_of, length-take-le i rows (omega arith))
+        ∙ omega (arith, e, trace_length m s (rows_of (take i rows)), length-map (take i rows) row_of, length-take-le i rows (omega arith))
 
-    next : trace_words m s (rows_of (take (i + 1) rows)) ≡ trace_words m s (rows_of (take i rows)) ++ (mark ∷ (content ∷ []))
+    before : take (from + 2 * i) words ≡ done
+    before = ap (take (from + 2 * i)) w ∙ take_at done (drop (from + 2 * i) old) (from + 2 * i) long
+
+    on : from + 2 * i + k ≡ from + 2 * (i + 1)
+    on = omega arith
+
+    behind : drop k (drop (from + 2 * i) words) ≡ drop (from + 2 * (i + 1)) old
+    behind = ap (drop k) (ap (drop (from + 2 * i)) w ∙ drop_at done (drop (from + 2 * i) old) (from + 2 * i) long)
+        ∙ drop-drop k (from + 2 * i) old ∙ ap (λ (n : ℕ). drop n old) on
+
+    next : trace_words m s (rows_of (take (i + 1) rows)) ≡ trace_words m s (rows_of (take i rows)) ++ part
     next = ap (trace_words m s) (map_more row_of rows i r h ∙ ap (λ (x : Row). rows_of (take i rows) ++ (row_of x ∷ [])) (sym is))
         ∙ trace_push m s (rows_of (take i rows)) (row_of r)
-        ∙ ap₂ (λ (x y : ℕ). trace_words m s (rows_of (take i rows)) ++ (x ∷ (y ∷ []))) (sym p) (sym q)
+        ∙ ap (λ (x : List ℕ). trace_words m s (rows_of (take i rows)) ++ x) (sym p)
 
 -- how long a key is
 pub key_length : (m : Meaning) (rows : List Row) (s : List ℕ) → length (key m (rows_of rows) s) ≡ length s + 2 * length rows

@@ -22,12 +22,9 @@ fn write_traces<B: Bank>(rows: &[Row], sets: &[ValueSet], words: &mut [u64], fro
     requires { from + 2 * length rows.now ≤ length words.old }
     ensures { words.new ≡ (take from words.old ++ trace_words B.Bank.meaning sets.now (rows_of rows.now)) ++ drop (from + 2 * length rows.now) words.old }
 {
-    let mut at = from;
-    for row in rows {
-        let [mark, content] = B::trace(row, sets).words();
-        words[at] = mark;
-        words[at + 1] = content;
-        at += 2;
+    for (i, row) in rows.iter().enumerate() {
+        let at = from + 2 * i;
+        words[at..at + 2].copy_from_slice(&B::trace(row, sets).words());
     }
 }
 
