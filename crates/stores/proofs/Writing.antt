@@ -1,6 +1,6 @@
 -- Words written one after the other over a list.
-use Rattle.std.proofs.Common.{◌≡◌, ℕ, ◌+◌, ◌*◌, ◌<◌, ◌≤◌, List, [], ◌∷◌, ◌++◌, map, length, get_or, take, drop, set, sym, refl, ap, ◌∙◌, ap₂, add-zero, arith}
-use Rattle.std.proofs.lemmas.List.{drop_more, set_at, append_assoc, length_push, length-append, length-map, length-take-le, map_more, take_at, drop_at, drop-drop, take_more, take_more_set, take_all, drop-set-lt, append-nil, take-append-drop}
+use Rattle.std.proofs.Common.{◌≡◌, ℕ, ◌+◌, ◌-◌, ◌*◌, ◌<◌, ◌≤◌, List, [], ◌∷◌, ◌++◌, map, length, get_or, take, drop, set, sym, refl, ap, ◌∙◌, ap₂, add-zero, arith}
+use Rattle.std.proofs.lemmas.List.{drop_more, drop_all, length-drop, set_at, append_assoc, length-append, length-map, length-take-le, map_more, take_at, drop_at, drop-drop, take_more, take_more_set, take_all, drop-set-lt, append-nil, take-append-drop}
 use borrow.Rule.Slice.PartMut.{put_mid}
 use Rattle.rows.specs.declared.row.Row.{Row}
 use Rattle.rows.specs.Rows.{RowData, Meaning}
@@ -34,55 +34,64 @@ voices_more s old words i v h k e d =
     ∙ ap (λ (x : List ℕ). x ++ drop (i + 1) old) (sym (map_more voice_word s i 0 h))
 
 -- the traces, one more: part is what is copied over the k words from the place on
-pub traces_more : (m : Meaning) (s : List ℕ) (rows : List Row) (i : ℕ) (r : Row) (front old words part : List ℕ) (from k : ℕ)
-    → i < length rows → r ≡ get_or rows i r → length front ≡ from → k ≡ 2
+pub traces_more : (m : Meaning) (s : List ℕ) (rows : List Row) (i : ℕ) (r : Row) (old words part : List ℕ) (k : ℕ)
+    → i < length rows → r ≡ get_or rows i r → k ≡ 2
     → part ≡ mark_word (m.trace (row_of r) s) ∷ (content_word (m.trace (row_of r) s) ∷ [])
-    → words ≡ (front ++ trace_words m s (rows_of (take i rows))) ++ drop (from + 2 * i) old
-    → put_mid (from + 2 * i) k words part ≡ (front ++ trace_words m s (rows_of (take (i + 1) rows))) ++ drop (from + 2 * (i + 1)) old
-traces_more m s rows i r front old words part from k h is e two p w =
+    → words ≡ trace_words m s (rows_of (take i rows)) ++ drop (2 * i) old
+    → put_mid (2 * i) k words part ≡ trace_words m s (rows_of (take (i + 1) rows)) ++ drop (2 * (i + 1)) old
+traces_more m s rows i r old words part k h is two p w =
     ap₂ (λ (x y : List ℕ). x ++ (part ++ y)) before behind
-    ∙ sym (append_assoc done part (drop (from + 2 * (i + 1)) old))
-    ∙ ap (λ (x : List ℕ). x ++ drop (from + 2 * (i + 1)) old) (append_assoc front (trace_words m s (rows_of (take i rows))) part ∙ ap (λ (x : List ℕ). front ++ x) (sym next))
+    ∙ sym (append_assoc done part (drop (2 * (i + 1)) old))
+    ∙ ap (λ (x : List ℕ). x ++ drop (2 * (i + 1)) old) (sym next)
   where
     done : List ℕ
-    done = front ++ trace_words m s (rows_of (take i rows))
+    done = trace_words m s (rows_of (take i rows))
 
-    long : length done ≡ from + 2 * i
-    long = length-append front (trace_words m s (rows_of (take i rows)))
-        ∙ omega (arith, e, trace_length m s (rows_of (take i rows)), length-map (take i rows) row_of, length-take-le i rows (omega arith))
+    long : length done ≡ 2 * i
+    long = omega (arith, trace_length m s (rows_of (take i rows)), length-map (take i rows) row_of, length-take-le i rows (omega arith))
 
-    before : take (from + 2 * i) words ≡ done
-    before = ap (take (from + 2 * i)) w ∙ take_at done (drop (from + 2 * i) old) (from + 2 * i) long
+    before : take (2 * i) words ≡ done
+    before = ap (take (2 * i)) w ∙ take_at done (drop (2 * i) old) (2 * i) long
 
-    on : from + 2 * i + k ≡ from + 2 * (i + 1)
+    on : 2 * i + k ≡ 2 * (i + 1)
     on = omega arith
 
-    behind : drop k (drop (from + 2 * i) words) ≡ drop (from + 2 * (i + 1)) old
-    behind = ap (drop k) (ap (drop (from + 2 * i)) w ∙ drop_at done (drop (from + 2 * i) old) (from + 2 * i) long)
-        ∙ drop-drop k (from + 2 * i) old ∙ ap (λ (n : ℕ). drop n old) on
+    behind : drop k (drop (2 * i) words) ≡ drop (2 * (i + 1)) old
+    behind = ap (drop k) (ap (drop (2 * i)) w ∙ drop_at done (drop (2 * i) old) (2 * i) long) ∙ drop-drop k (2 * i) old ∙ ap (λ (n : ℕ). drop n old) on
 
-    next : trace_words m s (rows_of (take (i + 1) rows)) ≡ trace_words m s (rows_of (take i rows)) ++ part
+    next : trace_words m s (rows_of (take (i + 1) rows)) ≡ done ++ part
     next = ap (trace_words m s) (map_more row_of rows i r h ∙ ap (λ (x : Row). rows_of (take i rows) ++ (row_of x ∷ [])) (sym is))
         ∙ trace_push m s (rows_of (take i rows)) (row_of r)
-        ∙ ap (λ (x : List ℕ). trace_words m s (rows_of (take i rows)) ++ x) (sym p)
+        ∙ ap (λ (x : List ℕ). done ++ x) (sym p)
 
 -- how long a key is
 pub key_length : (m : Meaning) (rows : List Row) (s : List ℕ) → length (key m (rows_of rows) s) ≡ length s + 2 * length rows
 key_length m rows s = length-append (voice_words s) (trace_words m s (rows_of rows)) ∙ omega (arith, length-map s voice_word, trace_length m s (rows_of rows), length-map rows row_of)
 
--- voices first, then traces
-pub key_words : (m : Meaning) (rows : List Row) (s old first last : List ℕ) → length s ≤ length old
-    → first ≡ voice_words s ++ drop (length s) old → last ≡ (take (length s) first ++ trace_words m s (rows_of rows)) ++ drop (length s + 2 * length rows) first
-    → last ≡ key m (rows_of rows) s ++ drop (length s + 2 * length rows) old
-key_words m rows s old first last h e d =
-    d ∙ ap₂ (λ (x y : List ℕ). (x ++ trace_words m s (rows_of rows)) ++ y) front back
+-- voices first, then traces, over all words behind the voices
+pub key_words : (m : Meaning) (rows : List Row) (s old first part : List ℕ)
+    → first ≡ voice_words s ++ drop (length s) old
+    → part ≡ trace_words m s (rows_of rows) ++ drop (2 * length rows) (take (length first - length s) (drop (length s) first))
+    → put_mid (length s) (length first - length s) first part ≡ key m (rows_of rows) s ++ drop (length s + 2 * length rows) old
+key_words m rows s old first part e d =
+    ap₂ (λ (x y : List ℕ). x ++ (part ++ y)) front none
+    ∙ ap (λ (x : List ℕ). voice_words s ++ x) (append-nil part ∙ d ∙ ap (λ (x : List ℕ). trace_words m s (rows_of rows) ++ x) rest)
+    ∙ sym (append_assoc (voice_words s) (trace_words m s (rows_of rows)) (drop (length s + 2 * length rows) old))
   where
     front : take (length s) first ≡ voice_words s
     front = ap (take (length s)) e ∙ take_at (voice_words s) (drop (length s) old) (length s) (length-map s voice_word)
 
-    back : drop (length s + 2 * length rows) first ≡ drop (length s + 2 * length rows) old
-    back = sym (drop-drop (2 * length rows) (length s) first) ∙ ap (drop (2 * length rows)) (ap (drop (length s)) e ∙ drop_at (voice_words s) (drop (length s) old) (length s) (length-map s voice_word))
-        ∙ drop-drop (2 * length rows) (length s) old
+    back : drop (length s) first ≡ drop (length s) old
+    back = ap (drop (length s)) e ∙ drop_at (voice_words s) (drop (length s) old) (length s) (length-map s voice_word)
+
+    few : length (drop (length s) first) ≤ length first - length s
+    few = omega (arith, length-drop (length s) first)
+
+    none : drop (length first - length s) (drop (length s) first) ≡ []
+    none = drop_all (length first - length s) (drop (length s) first) few
+
+    rest : drop (2 * length rows) (take (length first - length s) (drop (length s) first)) ≡ drop (length s + 2 * length rows) old
+    rest = ap (drop (2 * length rows)) (take_all (length first - length s) (drop (length s) first) few ∙ back) ∙ drop-drop (2 * length rows) (length s) old
 
 -- ---- a key behind its header
 
