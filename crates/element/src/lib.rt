@@ -141,11 +141,15 @@ impl Kind for Element {
     ghost meaning = { element };
 
     const LETTER: u8 = b'E';
+
     ghost LETTER = { element.letter };
+
     ghost own_letter = { refl };
 
     const BODY_LENGTH: usize = 3;
+
     ghost BODY_LENGTH = { element.body_length };
+
     ghost own_length = { refl };
 
     ghost lawful = { element_lawful };

@@ -167,11 +167,15 @@ impl Kind for Linear {
     ghost meaning = { linear };
 
     const LETTER: u8 = b'L';
+
     ghost LETTER = { linear.letter };
+
     ghost own_letter = { refl };
 
     const BODY_LENGTH: usize = 5;
+
     ghost BODY_LENGTH = { linear.body_length };
+
     ghost own_length = { refl };
 
     ghost lawful = { linear_lawful };
