@@ -83,11 +83,15 @@ impl Kind for AllDifferent {
     ghost meaning = { all_different };
 
     const LETTER: u8 = 0x41;
+
     ghost LETTER = { all_different.letter };
+
     ghost own_letter = { refl };
 
     const BODY_LENGTH: usize = 1;
+
     ghost BODY_LENGTH = { all_different.body_length };
+
     ghost own_length = { refl };
 
     ghost lawful = { all_different_lawful };

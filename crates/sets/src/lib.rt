@@ -47,11 +47,7 @@ pub fn greatest_value(set: ValueSet) -> u32
 pub fn only_value(set: ValueSet) -> Option<u32>
     ensures { result ≡ (if fixed set then Some (least set) else None) }
 {
-    if is_fixed(set) {
-        Some(least_value(set))
-    } else {
-        None
-    }
+    is_fixed(set).then_some(least_value(set))
 }
 
 // The set of one value; the empty set where there is no such value.
@@ -104,8 +100,6 @@ pub fn take_least(set: &mut ValueSet) -> Option<u32>
 }
 
 // The laws of membership stand.
-pub fn laws_stand() -> u8
+pub fn laws_stand()
     ensures { SetLaws }
-{
-    0
-}
+{}

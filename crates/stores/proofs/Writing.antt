@@ -1,6 +1,7 @@
 -- Words written one after the other over a list.
-use Rattle.std.proofs.Common.{◌≡◌, ℕ, ◌+◌, ◌*◌, ◌<◌, ◌≤◌, List, [], ◌∷◌, ◌++◌, map, length, get_or, take, drop, set, sym, refl, ap, ◌∙◌, ap₂, add-zero, arith}
-use Rattle.std.proofs.lemmas.List.{drop_more, set_at, append_assoc, length_push, length-append, length-map, length-take-le, map_more, take_at, drop_at, drop-drop, take_more, take_more_set, take_all, drop-set-lt, append-nil, take-append-drop}
+use Rattle.std.proofs.Common.{◌≡◌, ℕ, ◌+◌, ◌-◌, ◌*◌, ◌<◌, ◌≤◌, List, [], ◌∷◌, ◌++◌, map, length, get_or, take, drop, set, sym, refl, ap, ◌∙◌, ap₂, add-zero, arith}
+use Rattle.std.proofs.lemmas.List.{drop_more, drop_all, length-drop, set_at, append_assoc, length-append, length-map, length-take-le, map_more, take_at, drop_at, drop-drop, take_more, take_more_set, take_all, drop-set-lt, append-nil, take-append-drop}
+use borrow.Rule.Slice.PartMut.{put_mid}
 use Rattle.rows.specs.declared.row.Row.{Row}
 use Rattle.rows.specs.Rows.{RowData, Meaning}
 use Rattle.rows.specs.Traces.{mark_word, content_word}
@@ -32,54 +33,65 @@ voices_more s old words i v h k e d =
     ∙ ap (λ (x : ℕ). (map voice_word (take i s) ++ (x ∷ [])) ++ drop (i + 1) old) d
     ∙ ap (λ (x : List ℕ). x ++ drop (i + 1) old) (sym (map_more voice_word s i 0 h))
 
--- two words more
-two_more : (done old : List ℕ) (at mark content : ℕ) → length done ≡ at → at + 1 < length old
-    → set (set (done ++ drop at old) at mark) (at + 1) content ≡ (done ++ (mark ∷ (content ∷ []))) ++ drop (at + 2) old
-two_more done old at mark content long k =
-    ap (λ (x : List ℕ). set x (at + 1) content) (put_more done old at mark long (omega arith))
-    ∙ put_more (done ++ (mark ∷ [])) old (at + 1) content (length_push done mark ∙ ap (λ (n : ℕ). n + 1) long) k
-    ∙ ap₂ (λ (x : List ℕ) (n : ℕ). x ++ drop n old) (append_assoc done (mark ∷ []) (content ∷ [])) two
+-- the traces, one more: part is what is copied over the k words from the place on
+pub traces_more : (m : Meaning) (s : List ℕ) (rows : List Row) (i : ℕ) (r : Row) (old words part : List ℕ) (k : ℕ)
+    → i < length rows → r ≡ get_or rows i r → k ≡ 2
+    → part ≡ mark_word (m.trace (row_of r) s) ∷ (content_word (m.trace (row_of r) s) ∷ [])
+    → words ≡ trace_words m s (rows_of (take i rows)) ++ drop (2 * i) old
+    → put_mid (2 * i) k words part ≡ trace_words m s (rows_of (take (i + 1) rows)) ++ drop (2 * (i + 1)) old
+traces_more m s rows i r old words part k h is two p w =
+    ap₂ (λ (x y : List ℕ). x ++ (part ++ y)) before behind
+    ∙ sym (append_assoc done part (drop (2 * (i + 1)) old))
+    ∙ ap (λ (x : List ℕ). x ++ drop (2 * (i + 1)) old) (sym next)
   where
-    two : at + 1 + 1 ≡ at + 2
-    two = omega arith
+    done : List ℕ
+    done = trace_words m s (rows_of (take i rows))
 
--- the traces, one more
-pub traces_more : (m : Meaning) (s : List ℕ) (rows : List Row) (i : ℕ) (r : Row) (front old words : List ℕ) (from at mark content : ℕ)
-    → i < length rows → r ≡ get_or rows i r → length front ≡ from → at ≡ from + 2 * i → at + 1 < length old
-    → mark ≡ mark_word (m.trace (row_of r) s) → content ≡ content_word (m.trace (row_of r) s)
-    → words ≡ (front ++ trace_words m s (rows_of (take i rows))) ++ drop at old
-    → set (set words at mark) (at + 1) content ≡ (front ++ trace_words m s (rows_of (take (i + 1) rows))) ++ drop (at + 2) old
-traces_more m s rows i r front old words from at mark content h is e a k p q w =
-    ap (λ (x : List ℕ). set (set x at mark) (at + 1) content) w
-    ∙ two_more (front ++ trace_words m s (rows_of (take i rows))) old at mark content long k
-    ∙ ap (λ (x : List ℕ). x ++ drop (at + 2) old) (append_assoc front (trace_words m s (rows_of (take i rows))) (mark ∷ (content ∷ [])) ∙ ap (λ (x : List ℕ). front ++ x) (sym next))
-  where
-    long : length (front ++ trace_words m s (rows_of (take i rows))) ≡ at
-    long = length-append front (trace_words m s (rows_of (take i rows)))
-        ∙ omega (arith, e, a, trace_length m s (rows_of (take i rows)), length-map (take i rows) row_of, length-take-le i rows (omega arith))
+    long : length done ≡ 2 * i
+    long = omega (arith, trace_length m s (rows_of (take i rows)), length-map (take i rows) row_of, length-take-le i rows (omega arith))
 
-    next : trace_words m s (rows_of (take (i + 1) rows)) ≡ trace_words m s (rows_of (take i rows)) ++ (mark ∷ (content ∷ []))
+    before : take (2 * i) words ≡ done
+    before = ap (take (2 * i)) w ∙ take_at done (drop (2 * i) old) (2 * i) long
+
+    on : 2 * i + k ≡ 2 * (i + 1)
+    on = omega arith
+
+    behind : drop k (drop (2 * i) words) ≡ drop (2 * (i + 1)) old
+    behind = ap (drop k) (ap (drop (2 * i)) w ∙ drop_at done (drop (2 * i) old) (2 * i) long) ∙ drop-drop k (2 * i) old ∙ ap (λ (n : ℕ). drop n old) on
+
+    next : trace_words m s (rows_of (take (i + 1) rows)) ≡ done ++ part
     next = ap (trace_words m s) (map_more row_of rows i r h ∙ ap (λ (x : Row). rows_of (take i rows) ++ (row_of x ∷ [])) (sym is))
         ∙ trace_push m s (rows_of (take i rows)) (row_of r)
-        ∙ ap₂ (λ (x y : ℕ). trace_words m s (rows_of (take i rows)) ++ (x ∷ (y ∷ []))) (sym p) (sym q)
+        ∙ ap (λ (x : List ℕ). done ++ x) (sym p)
 
 -- how long a key is
 pub key_length : (m : Meaning) (rows : List Row) (s : List ℕ) → length (key m (rows_of rows) s) ≡ length s + 2 * length rows
 key_length m rows s = length-append (voice_words s) (trace_words m s (rows_of rows)) ∙ omega (arith, length-map s voice_word, trace_length m s (rows_of rows), length-map rows row_of)
 
--- voices first, then traces
-pub key_words : (m : Meaning) (rows : List Row) (s old first last : List ℕ) → length s ≤ length old
-    → first ≡ voice_words s ++ drop (length s) old → last ≡ (take (length s) first ++ trace_words m s (rows_of rows)) ++ drop (length s + 2 * length rows) first
-    → last ≡ key m (rows_of rows) s ++ drop (length s + 2 * length rows) old
-key_words m rows s old first last h e d =
-    d ∙ ap₂ (λ (x y : List ℕ). (x ++ trace_words m s (rows_of rows)) ++ y) front back
+-- voices first, then traces, over all words behind the voices
+pub key_words : (m : Meaning) (rows : List Row) (s old first part : List ℕ)
+    → first ≡ voice_words s ++ drop (length s) old
+    → part ≡ trace_words m s (rows_of rows) ++ drop (2 * length rows) (take (length first - length s) (drop (length s) first))
+    → put_mid (length s) (length first - length s) first part ≡ key m (rows_of rows) s ++ drop (length s + 2 * length rows) old
+key_words m rows s old first part e d =
+    ap₂ (λ (x y : List ℕ). x ++ (part ++ y)) front none
+    ∙ ap (λ (x : List ℕ). voice_words s ++ x) (append-nil part ∙ d ∙ ap (λ (x : List ℕ). trace_words m s (rows_of rows) ++ x) rest)
+    ∙ sym (append_assoc (voice_words s) (trace_words m s (rows_of rows)) (drop (length s + 2 * length rows) old))
   where
     front : take (length s) first ≡ voice_words s
     front = ap (take (length s)) e ∙ take_at (voice_words s) (drop (length s) old) (length s) (length-map s voice_word)
 
-    back : drop (length s + 2 * length rows) first ≡ drop (length s + 2 * length rows) old
-    back = sym (drop-drop (2 * length rows) (length s) first) ∙ ap (drop (2 * length rows)) (ap (drop (length s)) e ∙ drop_at (voice_words s) (drop (length s) old) (length s) (length-map s voice_word))
-        ∙ drop-drop (2 * length rows) (length s) old
+    back : drop (length s) first ≡ drop (length s) old
+    back = ap (drop (length s)) e ∙ drop_at (voice_words s) (drop (length s) old) (length s) (length-map s voice_word)
+
+    few : length (drop (length s) first) ≤ length first - length s
+    few = omega (arith, length-drop (length s) first)
+
+    none : drop (length first - length s) (drop (length s) first) ≡ []
+    none = drop_all (length first - length s) (drop (length s) first) few
+
+    rest : drop (2 * length rows) (take (length first - length s) (drop (length s) first)) ≡ drop (length s + 2 * length rows) old
+    rest = ap (drop (2 * length rows)) (take_all (length first - length s) (drop (length s) first) few ∙ back) ∙ drop-drop (2 * length rows) (length s) old
 
 -- ---- a key behind its header
 

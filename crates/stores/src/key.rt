@@ -12,22 +12,19 @@ fn write_voices(sets: &[ValueSet], words: &mut [u64])
     requires { length sets.now ≤ length words.old }
     ensures { words.new ≡ voice_words sets.now ++ drop (length sets.now) words.old }
 {
+    // by index: what writes through iter_mut and zip leave of the words, the check does not know
     for (i, s) in sets.iter().enumerate() {
         words[i] = if is_fixed(*s) { 0 } else { *s };
     }
 }
 
-// The rows' traces, from the word `from` on.
-fn write_traces<B: Bank>(rows: &[Row], sets: &[ValueSet], words: &mut [u64], from: usize)
-    requires { from + 2 * length rows.now ≤ length words.old }
-    ensures { words.new ≡ (take from words.old ++ trace_words B.Bank.meaning sets.now (rows_of rows.now)) ++ drop (from + 2 * length rows.now) words.old }
+// The rows' traces, at the front of `words`.
+fn write_traces<B: Bank>(rows: &[Row], sets: &[ValueSet], words: &mut [u64])
+    requires { 2 * length rows.now ≤ length words.old }
+    ensures { words.new ≡ trace_words B.Bank.meaning sets.now (rows_of rows.now) ++ drop (2 * length rows.now) words.old }
 {
-    let mut at = from;
-    for row in rows {
-        let [mark, content] = B::trace(row, sets).words();
-        words[at] = mark;
-        words[at + 1] = content;
-        at += 2;
+    for (i, row) in rows.iter().enumerate() {
+        words[2 * i..2 * i + 2].copy_from_slice(&B::trace(row, sets).words());
     }
 }
 
@@ -40,6 +37,6 @@ pub fn write_key<B: Bank>(rows: &[Row], sets: &[ValueSet], words: &mut [u64]) ->
         return None;
     }
     write_voices(sets, words);
-    write_traces::<B>(rows, sets, words, sets.len());
+    write_traces::<B>(rows, sets, &mut words[sets.len()..]);
     Some(sets.len() + 2 * rows.len())
 }

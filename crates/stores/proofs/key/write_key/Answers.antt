@@ -24,7 +24,7 @@ returns g c =
     let k = key_length g.B.Bank.meaning c.args.rows.now c.args.sets.now in
     let long : leb (length (key g.B.Bank.meaning (rows_of c.args.rows.now) c.args.sets.now)) (length c.args.words.now) ≡ true =
     le-leb _ _ (omega (arith, k, c.if-words-sets.false, c.if-words-sets-2.false)) in
-    let words = key_words g.B.Bank.meaning c.args.rows.now c.args.sets.now c.args.words.now c.write_voices.new.words c.write_traces.new.words c.if-words-sets.false c.write_voices.ensures c.write_traces.ensures in
+    let words = key_words g.B.Bank.meaning c.args.rows.now c.args.sets.now c.args.words.now c.write_voices.new.words c.write_traces.new.words c.write_voices.ensures c.write_traces.ensures in
     record {
       value = ap Some (sym k) ∙ ap (λ (b : Bool). cond b (Some (length (key g.B.Bank.meaning (rows_of c.args.rows.now) c.args.sets.now))) None) (sym long);
       after = words ∙ ap (λ (n : ℕ). key g.B.Bank.meaning (rows_of c.args.rows.now) c.args.sets.now ++ drop n c.args.words.now) (sym k)
