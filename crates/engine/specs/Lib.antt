@@ -1,4 +1,5 @@
 pub mod Levels
 pub mod Nodes
+pub mod Outcomes
 pub mod Places
 pub mod Searches

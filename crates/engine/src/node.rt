@@ -2,7 +2,7 @@
 pub mod ops;
 
 // A set is empty; all voices are fixed; the store holds its key; it has children, which fix this voice.
-#[derive(Clone, Copy)]
+#[derive(Clone, Copy, Debug, PartialEq, Eq)]
 pub enum Node {
     Dead,
     Solution,

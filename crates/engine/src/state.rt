@@ -9,6 +9,9 @@ use sets::ValueSet;
 pub mod ops;
 pub mod run;
 
+// The most voices that a search has.
+pub const MOST_VOICES: usize = 80;
+
 // Where a search stands, and the memory that it works in, all of it reserved when it is made.
 #[derive(Drop)]
 pub struct Search {

@@ -19,9 +19,10 @@ pub mod read;
 pub mod solve;
 pub mod state;
 
-// The most voices, rows and bytes of rows.
-pub const MOST_VOICES: usize = 80;
+// The most voices, which are a search's.
+pub use engine::state::MOST_VOICES;
 
+// The most rows and bytes of rows.
 pub const MOST_ROWS: usize = 120;
 
 pub const MOST_BYTES: usize = 8192;

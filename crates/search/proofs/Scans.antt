@@ -1,32 +1,11 @@
 -- Steps of the loops over sets and rows: what is left of a list gives what the whole does.
-use Rattle.std.proofs.Common.{◌≡◌, ℕ, suc, ◌+◌, ◌<◌, ◌≤◌, Bool, true, false, ◌||◌, List, length, get_or, drop, sym, ap, ◌∙◌}
-use lib.Count.{ones}
+use Rattle.std.proofs.Common.{◌≡◌, ℕ, suc, ◌+◌, ◌<◌, ◌≤◌, Bool, true, false, List, length, get_or, drop, sym, ap, ◌∙◌}
 use Rattle.std.proofs.lemmas.List.{at_drop_more, at_drop_all}
-use Rattle.std.proofs.lemmas.Bool.{eq-eqb, ne_eqb}
 use Rattle.rows.specs.declared.row.Row.{Row}
 use Rattle.rows.specs.Rows.{RowData, Meaning}
 use Rattle.rows.specs.Views.{row_of, rows_of}
 use Rattle.sets.specs.Placings.{some_empty, changed}
-use Rattle.search.specs.Propagation.{Round, round, round_from, rounds, size}
-
--- ---- some set is empty
-
-pub empty_here : (xs : List ℕ) (i : ℕ) → i < length xs → get_or xs i 0 ≡ 0 → some_empty (drop i xs) ≡ true
-empty_here xs i h z = at_drop_more some_empty xs i 0 h ∙ ap (λ b. b || some_empty (drop (i + 1) xs)) (eq-eqb (get_or xs i 0) 0 z)
-
-pub empty_more : (xs : List ℕ) (i : ℕ) → i < length xs → (get_or xs i 0 ≡ 0 → ⊥) → some_empty (drop i xs) ≡ some_empty (drop (i + 1) xs)
-empty_more xs i h z = at_drop_more some_empty xs i 0 h ∙ ap (λ b. b || some_empty (drop (i + 1) xs)) (ne_eqb (get_or xs i 0) 0 z)
-
-pub empty_none : (xs : List ℕ) (i : ℕ) → length xs ≤ i → some_empty (drop i xs) ≡ false
-empty_none xs i h = at_drop_all some_empty xs i h
-
--- ---- how many values
-
-pub size_more : (xs : List ℕ) (i : ℕ) → i < length xs → size (drop i xs) ≡ ones (get_or xs i 0) + size (drop (i + 1) xs)
-size_more xs i h = at_drop_more size xs i 0 h
-
-pub size_none : (xs : List ℕ) (i : ℕ) → length xs ≤ i → size (drop i xs) ≡ 0
-size_none xs i h = at_drop_all size xs i h
+use Rattle.search.specs.Propagation.{Round, round, round_from, rounds}
 
 -- ---- a round
 

@@ -12,23 +12,14 @@ use sets::ValueSet;
 pub fn has_empty(sets: &[ValueSet]) -> bool
     ensures { result ≡ some_empty sets.now }
 {
-    for s in sets {
-        if *s == 0 {
-            return true;
-        }
-    }
-    false
+    sets.iter().any(|s| *s == 0)
 }
 
 // How many values the sets have together.
 pub fn count_values(sets: &[ValueSet]) -> u128
     ensures { result ≡ size sets.now }
 {
-    let mut sum: u128 = 0;
-    for s in sets {
-        sum += u128::from(s.count_ones());
-    }
-    sum
+    sets.iter().map(|s| u128::from(s.count_ones())).sum()
 }
 
 // Each row has a turn, until one empties a set. Says whether another round is due: some turn changed a set, and none emptied one.
@@ -52,11 +43,9 @@ pub fn run_round<B: Bank>(rows: &[Row], sets: &mut [ValueSet]) -> bool
 pub fn propagate<B: Bank>(rows: &[Row], sets: &mut [ValueSet])
     ensures { sets.new ≡ propagated B.Bank.meaning (rows_of rows.now) sets.old }
 {
-    let mut left = count_values(sets);
-    while run_round::<B>(rows, sets) {
-        if left == 0 {
-            return;
+    for _ in 0..=count_values(sets) {
+        if !run_round::<B>(rows, sets) {
+            break;
         }
-        left -= 1;
     }
 }

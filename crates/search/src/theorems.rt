@@ -6,113 +6,81 @@ ghost use Rattle.search.specs.Theorems.{SolveKeepsBudget, RefusalsSmallest, Limi
 ghost use Rattle.search.specs.Theorems.{OneOutcome, StoresAgree};
 
 // Propagation takes out only values that no placing uses for which all rows hold, and ends where no turn changes anything.
-pub fn propagation_sound() -> u8
+pub fn propagation_sound()
     ensures { PropagationSound }
-{
-    0
-}
+{}
 
 // Where propagation fixes every voice, the values are the one lawful placing.
-pub fn fixed_solves() -> u8
+pub fn fixed_solves()
     ensures { FixedSolves }
-{
-    0
-}
+{}
 
 // Two lists of sets with one key have the same lawful fillings of their open voices.
-pub fn keys_project() -> u8
+pub fn keys_project()
     ensures { KeysProject }
-{
-    0
-}
+{}
 
 // After every history: what was found is the least lawful placing, and none says that there is none.
-pub fn search_stands() -> u8
+pub fn search_stands()
     ensures { SearchStands }
-{
-    0
-}
+{}
 
 // Every node branches on its lowest voice that is not fixed.
-pub fn branches_lowest() -> u8
+pub fn branches_lowest()
     ensures { BranchesLowest }
-{
-    0
-}
+{}
 
 // The voices of the levels ascend strictly.
-pub fn levels_rise() -> u8
+pub fn levels_rise()
     ensures { LevelsRise }
-{
-    0
-}
+{}
 
 // A key that goes to the store when a node is exhausted is not held already.
-pub fn never_twice() -> u8
+pub fn never_twice()
     ensures { NeverTwice }
-{
-    0
-}
+{}
 
 // Each answer of Solve in a history says what is so of the voices and rows given before it.
-pub fn answers_stand() -> u8
+pub fn answers_stand()
     ensures { AnswersStand }
-{
-    0
-}
+{}
 
 // What Read wrote is the least lawful placing, and the rest of the buffer is as it was.
-pub fn reads_stand() -> u8
+pub fn reads_stand()
     ensures { ReadsStand }
-{
-    0
-}
+{}
 
 // A table has the voices and rows that its calls have given.
-pub fn tables_given() -> u8
+pub fn tables_given()
     ensures { TablesGiven }
-{
-    0
-}
+{}
 
 // Two results are equal exactly when the least lawful placings are, or when neither table has any.
-pub fn results_agree() -> u8
+pub fn results_agree()
     ensures { ResultsAgree }
-{
-    0
-}
+{}
 
 // Solve opens at most its budget, and says stopped exactly when that is used up and the search is not over.
-pub fn solve_keeps_budget() -> u8
+pub fn solve_keeps_budget()
     ensures { SolveKeepsBudget }
-{
-    0
-}
+{}
 
 // A call is declined under the smallest number that fits.
-pub fn refusals_smallest() -> u8
+pub fn refusals_smallest()
     ensures { RefusalsSmallest }
-{
-    0
-}
+{}
 
 // No history passes the limits of a table.
-pub fn limits_stand() -> u8
+pub fn limits_stand()
     ensures { LimitsStand }
-{
-    0
-}
+{}
 
 // Over each store every call comes to something, and to one thing only.
-pub fn one_outcome() -> u8
+pub fn one_outcome()
     ensures { OneOutcome }
-{
-    0
-}
+{}
 
 // Stores that hold the same keys and lose none give the same answers and counts.
-pub fn stores_agree() -> u8
+pub fn stores_agree()
     ensures { StoresAgree }
-{
-    0
-}
+{}

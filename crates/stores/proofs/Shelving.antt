@@ -1,8 +1,9 @@
 -- Keys behind their headers: reading back what was written, one key at a time, and one key more.
-use Rattle.std.proofs.Common.{◌≡◌, ℕ, zero, suc, ◌+◌, ◌-◌, ◌*◌, ◌/◌, ◌%◌, ◌^◌, ◌<◌, ◌≤◌, Bool, true, false, cond, ◌&&◌, ◌||◌, eqb, ltb, leb, ◌⊎◌, List, [], ◌∷◌, ◌++◌, length, get_or, take, drop, sym, refl, ap, ◌∙◌, subst, ap₂, inl, inr, le_refl, arith}
+use Rattle.std.proofs.Common.{◌≡◌, ℕ, zero, suc, ◌+◌, ◌-◌, ◌/◌, ◌%◌, ◌<◌, ◌≤◌, Bool, true, false, cond, ◌&&◌, ◌||◌, eqb, ltb, leb, ◌⊎◌, List, [], ◌∷◌, ◌++◌, length, get_or, take, drop, sym, refl, ap, ◌∙◌, subst, ap₂, inl, inr, le_refl, arith}
 use Rattle.std.proofs.lemmas.Nat.{mod-mul-add}
-use Rattle.std.proofs.lemmas.List.{drop_more, drop-drop, drop_all, take_at, drop_at, append_assoc, append-nil, append_cancel_left, take-append-drop, length-take, length-take-le, length-drop, length-append, at_drop_more, at_drop_all}
-use Rattle.std.proofs.lemmas.Bool.{and_from, eq-eqb, ne_eqb, cases_Bool, or_right, and_right, lt-ltb, lt-leb, le-leb}
+use Rattle.std.proofs.lemmas.List.{take_at, take_all, drop_at, append_assoc, append-nil, append_cancel_left, take-append-drop, length-take, length-take-le, length-drop, length-append}
+use Rattle.std.proofs.lemmas.Bool.{and_from, cases_Bool, or_right, and_right, lt-ltb, lt-leb, le-leb}
+use Rattle.std.specs.Str.{bytes_eq}
 use Rattle.sets.specs.Placings.{same}
 use Rattle.stores.specs.Stores.{member, Joined, Keeps, fits}
 use Rattle.stores.specs.Shelves.{hash_from, header, written, keys_in, shelved, Whole, shelf_view, shelf_keep, shelf_after}
@@ -16,34 +17,17 @@ use Rattle.sets.proofs.Lists.{same_is}
 pub same_not : (xs ys : List ℕ) → (xs ≡ ys → ⊥) → same xs ys ≡ false
 same_not xs ys n = elim (cases_Bool (same xs ys)) [ inl e ↦ absurd (n (same_is xs ys e)) | inr e ↦ e ]
 
-pub longer_not : (xs ys : List ℕ) → (length xs ≡ length ys → ⊥) → same xs ys ≡ false
+longer_not : (xs ys : List ℕ) → (length xs ≡ length ys → ⊥) → same xs ys ≡ false
 longer_not xs ys n = same_not xs ys (λ e. n (ap length e))
 
--- a loop that compares: one place on, a place that differs, the end
-both_more : (xs ys : List ℕ) (i : ℕ) → i < length xs → i < length ys → same (drop i xs) (drop i ys) ≡ (eqb (get_or xs i 0) (get_or ys i 0) && same (drop (i + 1) xs) (drop (i + 1) ys))
-both_more xs ys i h k = ap₂ same (drop_more xs i 0 h) (drop_more ys i 0 k)
-
-pub same_more : (xs ys : List ℕ) (i : ℕ) → i < length xs → length xs ≡ length ys → get_or xs i 0 ≡ get_or ys i 0 → same (drop i xs) (drop i ys) ≡ same (drop (i + 1) xs) (drop (i + 1) ys)
-same_more xs ys i h k e = both_more xs ys i h (omega arith) ∙ ap (λ b. b && same (drop (i + 1) xs) (drop (i + 1) ys)) (eq-eqb (get_or xs i 0) (get_or ys i 0) e)
-
-pub same_stop : (xs ys : List ℕ) (i : ℕ) → i < length xs → length xs ≡ length ys → (get_or xs i 0 ≡ get_or ys i 0 → ⊥) → same (drop i xs) (drop i ys) ≡ false
-same_stop xs ys i h k e = both_more xs ys i h (omega arith) ∙ ap (λ b. b && same (drop (i + 1) xs) (drop (i + 1) ys)) (ne_eqb (get_or xs i 0) (get_or ys i 0) e)
-
-pub same_end : (xs ys : List ℕ) (i : ℕ) → length xs ≤ i → length xs ≡ length ys → same (drop i xs) (drop i ys) ≡ true
-same_end xs ys i h k = ap₂ same (drop_all i xs h) (drop_all i ys (omega arith))
+-- what `==` of two slices answers
+pub same_pointwise : (xs ys : List ℕ) → same xs ys ≡ bytes_eq xs ys
+same_pointwise [] [] = refl
+same_pointwise [] (y ∷ ys) = refl
+same_pointwise (x ∷ xs) [] = refl
+same_pointwise (x ∷ xs) (y ∷ ys) = ap (λ (b : Bool). eqb x y && b) (same_pointwise xs ys)
 
 -- ---- hashes and headers
-
-wraps : (p w : ℕ) → (p % 2 ^ 64 + w) % 2 ^ 64 ≡ (p + w) % 2 ^ 64
-wraps p w = omega arith
-
-pub hash_more : (ws : List ℕ) (i h g : ℕ) → i < length ws → g ≡ ((h * 0x9E3779B97F4A7C15) % 2 ^ 64 + get_or ws i 0) % 2 ^ 64 → hash_from h (drop i ws) ≡ hash_from g (drop (i + 1) ws)
-hash_more ws i h g l e =
-    at_drop_more (hash_from h) ws i 0 l
-    ∙ ap (λ (x : ℕ). hash_from x (drop (i + 1) ws)) (sym (e ∙ wraps (h * 0x9E3779B97F4A7C15) (get_or ws i 0)))
-
-pub hash_end : (ws : List ℕ) (i h : ℕ) → length ws ≤ i → hash_from h (drop i ws) ≡ h
-hash_end ws i h l = at_drop_all (hash_from h) ws i l
 
 -- the header tells the length
 pub header_length : (k : List ℕ) → length k < 65536 → header k % 65536 ≡ length k
@@ -122,23 +106,20 @@ whole_first h ws w = record {
 
 -- ---- looking
 
--- words from `at` on that are whole keys: the first of them, and the rest
-pub record At (ws : List ℕ) (at : ℕ) : Type 0 where
-  pub inside : at + 1 + get_or ws at 0 % 65536 ≤ length ws
-  pub own : get_or ws at 0 ≡ header (take (get_or ws at 0 % 65536) (drop (at + 1) ws))
-  pub rest : Whole (drop (at + 1 + get_or ws at 0 % 65536) ws)
-  pub keys : shelved (drop at ws) ≡ take (get_or ws at 0 % 65536) (drop (at + 1) ws) ∷ shelved (drop (at + 1 + get_or ws at 0 % 65536) ws)
+-- words that are whole keys: the first of them, and the rest
+pub record At (ws : List ℕ) : Type 0 where
+  pub inside : get_or ws 0 0 % 65536 ≤ length (drop 1 ws)
+  pub own : get_or ws 0 0 ≡ header (take (get_or ws 0 0 % 65536) (drop 1 ws))
+  pub rest : Whole (drop (get_or ws 0 0 % 65536) (drop 1 ws))
+  pub keys : shelved ws ≡ take (get_or ws 0 0 % 65536) (drop 1 ws) ∷ shelved (drop (get_or ws 0 0 % 65536) (drop 1 ws))
 
-pub looks_at : (ws : List ℕ) (at : ℕ) → at < length ws → Whole (drop at ws) → At ws at
-looks_at ws at h w =
-    let f = whole_first (get_or ws at 0) (drop (at + 1) ws) (subst Whole (drop_more ws at 0 h) w) in
-    let on : drop (get_or ws at 0 % 65536) (drop (at + 1) ws) ≡ drop (at + 1 + get_or ws at 0 % 65536) ws = drop-drop (get_or ws at 0 % 65536) (at + 1) ws in
-    record {
-      inside = omega (arith, f.inside, length-drop (at + 1) ws);
-      own = f.own;
-      rest = subst Whole on f.rest;
-      keys = ap shelved (drop_more ws at 0 h) ∙ shelved_step (get_or ws at 0) (drop (at + 1) ws) ∙ ap (λ (x : List ℕ). take (get_or ws at 0 % 65536) (drop (at + 1) ws) ∷ shelved x) on;
-    }
+-- what a pattern leaves behind the first word
+pub behind_first : (ws : List ℕ) → take (length ws - 1) (drop 1 ws) ≡ drop 1 ws
+behind_first ws = take_all (length ws - 1) (drop 1 ws) (omega (arith, length-drop 1 ws))
+
+pub looks : (ws : List ℕ) → 1 ≤ length ws → Whole ws → At ws
+looks [] h w = absurd (omega arith)
+looks (x ∷ ws) h w = let f = whole_first x ws w in record { inside = f.inside; own = f.own; rest = f.rest; keys = shelved_step x ws }
 
 -- another header, another key
 pub other_header : (k x : List ℕ) (h : ℕ) → h ≡ header x → (h ≡ header k → ⊥) → same k x ≡ false

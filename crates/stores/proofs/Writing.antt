@@ -1,6 +1,6 @@
 -- Words written one after the other over a list.
 use Rattle.std.proofs.Common.{◌≡◌, ℕ, ◌+◌, ◌-◌, ◌*◌, ◌<◌, ◌≤◌, List, [], ◌∷◌, ◌++◌, map, length, get_or, take, drop, set, sym, refl, ap, ◌∙◌, ap₂, add-zero, arith}
-use Rattle.std.proofs.lemmas.List.{drop_more, drop_all, length-drop, set_at, append_assoc, length-append, length-map, length-take-le, map_more, take_at, drop_at, drop-drop, take_more, take_more_set, take_all, drop-set-lt, append-nil, take-append-drop}
+use Rattle.std.proofs.lemmas.List.{drop_more, drop_all, length-drop, set_at, append_assoc, length_push, length-append, length-map, length-take-le, map_more, take_at, drop_at, drop-drop, take_more, take_more_set, take_all, drop-set-lt, append-nil, take-append-drop}
 use borrow.Rule.Slice.PartMut.{put_mid}
 use Rattle.rows.specs.declared.row.Row.{Row}
 use Rattle.rows.specs.Rows.{RowData, Meaning}
@@ -92,37 +92,3 @@ key_words m rows s old first part e d =
 
     rest : drop (2 * length rows) (take (length first - length s) (drop (length s) first)) ≡ drop (length s + 2 * length rows) old
     rest = ap (drop (2 * length rows)) (take_all (length first - length s) (drop (length s) first) few ∙ back) ∙ drop-drop (2 * length rows) (length s) old
-
--- ---- a key behind its header
-
--- one word of the key more
-pub word_more : (old key words : List ℕ) (at i : ℕ) → at + 1 + length key ≤ length old → i < length key
-    → words ≡ (take (at + 1) old ++ take i key) ++ drop (at + 1 + i) old
-    → set words (at + 1 + i) (get_or key i 0) ≡ (take (at + 1) old ++ take (i + 1) key) ++ drop (at + 1 + (i + 1)) old
-word_more old key words at i room h w =
-    ap (λ (x : List ℕ). set x (at + 1 + i) (get_or key i 0)) w
-    ∙ put_more (take (at + 1) old ++ take i key) old (at + 1 + i) (get_or key i 0) long (omega arith)
-    ∙ ap₂ (λ (x : List ℕ) (n : ℕ). x ++ drop n old) (append_assoc (take (at + 1) old) (take i key) (get_or key i 0 ∷ []) ∙ ap (λ (x : List ℕ). take (at + 1) old ++ x) (sym (take_more key i 0 h))) on
-  where
-    long : length (take (at + 1) old ++ take i key) ≡ at + 1 + i
-    long = length-append (take (at + 1) old) (take i key) ∙ omega (arith, length-take-le (at + 1) old (omega arith), length-take-le i key (omega arith))
-
-    on : at + 1 + i + 1 ≡ at + 1 + (i + 1)
-    on = omega arith
-
--- all of it
-pub words_all : (old key words : List ℕ) (at h i : ℕ) → at < length old → length key ≤ i → i ≤ length key
-    → words ≡ (take (at + 1) (set old at h) ++ take i key) ++ drop (at + 1 + i) (set old at h)
-    → words ≡ (take at old ++ (h ∷ key)) ++ drop (at + 1 + length key) old
-words_all old key words at h i l e f w =
-    w
-    ∙ ap₂ (λ (x y : List ℕ). (x ++ y) ++ drop (at + 1 + i) (set old at h)) (take_more_set old at h l) (take_all i key e)
-    ∙ ap₂ (λ (x y : List ℕ). x ++ y) (append_assoc (take at old) (h ∷ []) key) (drop-set-lt (at + 1 + i) old at h (omega arith) ∙ ap (λ (n : ℕ). drop n old) same)
-  where
-    same : at + 1 + i ≡ at + 1 + length key
-    same = omega arith
-
--- before the first word
-pub words_none : (old key : List ℕ) (at : ℕ) → old ≡ (take (at + 1) old ++ []) ++ drop (at + 1 + 0) old
-words_none old key at =
-    sym (ap₂ (λ (x : List ℕ) (n : ℕ). x ++ drop n old) (append-nil (take (at + 1) old)) (add-zero (at + 1)) ∙ take-append-drop (at + 1) old)

@@ -1,6 +1,5 @@
 // Keys in a row of words, each behind its header.
 ghost use Rattle.std.specs.Prelude.{◌≡◌, ◌<◌, length};
-ghost use Rattle.sets.specs.Placings.{same};
 ghost use Rattle.stores.specs.Stores.{member};
 ghost use Rattle.stores.specs.Shelves.{hash_from, header, shelved, Whole};
 
@@ -11,11 +10,10 @@ const LENGTHS: u64 = 65536;
 fn hash(words: &[u64]) -> u64
     ensures { result ≡ hash_from 0 words.now }
 {
-    let mut h: u64 = 0;
-    for w in words {
-        h = h.wrapping_mul(0x9E3779B97F4A7C15).wrapping_add(*w);
-    }
-    h
+    words.iter().fold(
+        0u64,
+        |h, w| h.wrapping_mul(0x9E3779B97F4A7C15).wrapping_add(*w),
+    )
 }
 
 // The header of a key: its length, and above that the high part of its hash.
@@ -24,21 +22,6 @@ pub(crate) fn header_of(key: &[u64]) -> u64
     ensures { result ≡ header key.now }
 {
     hash(key) / LENGTHS * LENGTHS + key.len() as u64
-}
-
-// Whether two rows of words are the same.
-fn same_words(a: &[u64], b: &[u64]) -> bool
-    ensures { result ≡ same a.now b.now }
-{
-    if a.len() != b.len() {
-        return false;
-    }
-    for i in 0..a.len() {
-        if a[i] != b[i] {
-            return false;
-        }
-    }
-    true
 }
 
 // Whether the words hold the key. A key is compared only where its header is the key's own, and passed over otherwise.
@@ -50,14 +33,13 @@ pub(crate) fn holds(words: &[u64], key: &[u64]) -> bool
         return false;
     }
     let wanted = header_of(key);
-    let mut at = 0;
-    while at < words.len() {
-        let header = words[at];
-        let next = at + 1 + (header % LENGTHS) as usize;
-        if header == wanted && same_words(key, &words[at + 1..next]) {
+    let mut left = words;
+    while let [header, rest @ ..] = left {
+        let (held, next) = rest.split_at((*header % LENGTHS) as usize);
+        if *header == wanted && key == held {
             return true;
         }
-        at = next;
+        left = next;
     }
     false
 }

@@ -6,13 +6,11 @@ ghost use Rattle.engine.specs.Searches.{Begun, voice_count, node_sets, place, ou
 
 use crate::level::{End, LevelRecord};
 use crate::outcome::Outcome;
-use crate::state::Search;
+use crate::state::{MOST_VOICES, Search};
 use sets::ValueSet;
 use std::alloc::{AllocError, Global};
 
-// The most voices, the words of the longest key, and the sets of all levels.
-const MOST_VOICES: usize = 80;
-
+// The words of the longest key, and the sets of all levels.
 const KEY_WORDS: usize = 320;
 
 const TRAIL: usize = 6400;

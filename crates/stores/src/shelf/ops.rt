@@ -29,9 +29,7 @@ impl<'a> Shelf<'a> {
     {
         let at = self.used;
         self.words[at] = header_of(key);
-        for (i, w) in key.iter().enumerate() {
-            self.words[at + 1 + i] = *w;
-        }
+        self.words[at + 1..at + 1 + key.len()].copy_from_slice(key);
     }
 }
 
@@ -61,7 +59,7 @@ impl<'a> Store for Shelf<'a> {
         }
         let used = self.used;
         let room = self.words.len().min(MOST_WORDS);
-        if key.len() == 0 || key.len() >= room - used {
+        if key.is_empty() || key.len() >= room - used {
             return Stored::Lost;
         }
         self.write(key);

@@ -1,19 +1,15 @@
-use Rattle.std.proofs.Common.{◌≤◌, get_or, arith}
+use Rattle.std.proofs.Common.{◌≡◌, ℕ, ◌+◌, List, [], ◌∷◌, map, refl, ap, ◌∙◌, rules}
+use Rattle.std.specs.List.{sum}
+use Rattle.std.proofs.lemmas.List.Sums.{sum_by-cons}
 use lib.Count.{ones}
-use Rattle.std.proofs.lemmas.Nat.{ones-le}
-use Rattle.search.proofs.Scans.{size_more, size_none}
+use Rattle.search.specs.Propagation.{size}
 use Rattle.search.proofs.propagation.count_values.Goals as goal
 
-pub overflow_add-sum : goal.overflow_add-sum
-overflow_add-sum c =
-    let k : ones (get_or c.args.sets.now c.loop-s.s-index 0) ≤ 64 = ones-le 64 _ (c.type_inv.sets c.loop-s.s-index).fits in
-    record { fits = omega (arith, c.loop-s.invariant.1) }
-
-pub loop-s-preserved : goal.loop-s-preserved
-loop-s-preserved c =
-    let k : ones (get_or c.args.sets.now c.loop-s.s-index 0) ≤ 64 = ones-le 64 _ (c.type_inv.sets c.loop-s.s-index).fits in
-    let e = size_more c.args.sets.now c.loop-s.s-index c.loop-s-test.true in
-    (omega (arith, c.loop-s.invariant.0), omega (arith, c.loop-s.invariant.1))
+sum_size : (xs : List ℕ) → sum (map ones xs) ≡ size xs
+sum_size [] = refl
+sum_size (x ∷ xs) = sum_by-cons (λ (n : ℕ). n) (ones x) (map ones xs) ∙ ap (λ (n : ℕ). ones x + n) (sum_size xs)
 
 pub returns : goal.returns
-returns c = let e = size_none c.args.sets.now c.loop-s.s-index c.loop-s-test.false in omega (arith, c.loop-s.invariant.0)
+returns c =
+    let mapped : c.sum.result ≡ sum (map ones c.args.sets.now) = search rules in
+    mapped ∙ sum_size c.args.sets.now

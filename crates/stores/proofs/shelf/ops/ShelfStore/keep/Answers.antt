@@ -1,12 +1,13 @@
-use Rattle.std.proofs.Common.{◌≡◌, ℕ, ◌+◌, ◌-◌, ◌<◌, ◌≤◌, min, ◌⊎◌, length, take, sym, subst, inl, inr, arith}
+use Rattle.std.proofs.Common.{◌≡◌, ℕ, ◌+◌, ◌-◌, ◌<◌, ◌≤◌, min, ◌⊎◌, length, take, sym, ◌∙◌, subst, inl, inr, arith}
 use Rattle.std.proofs.lemmas.List.{length-take-le}
+use Rattle.std.proofs.lemmas.Bool.{eqb-true, eqb-false}
 use Rattle.stores.specs.Shelves.{room_of, Whole, shelf_view}
 use Rattle.stores.specs.Stores.{Keeps}
 use Rattle.stores.specs.Shown.{room, used_words, view_of}
 use Rattle.stores.specs.declared.store.Stored.TheVariants.{Kept}
 use Rattle.stores.proofs.Shelving.{told_again, told_lost, told_joins, fits_not, fits_so, whole_push, grown}
 use Rattle.stores.proofs.shelf.ops.ShelfStore.keep.Goals as goal
-use Rattle.stores.proofs.shelf.ops.ShelfStore.keep.Goals.{then-key-eq0-via-then-key-eq0, then-key-eq0-via-else-key-eq0+then-key-room}
+use Rattle.stores.proofs.shelf.ops.ShelfStore.keep.Goals.{then-is_empty-via-then-is_empty, then-is_empty-via-else-is_empty+then-key-room}
 
 inside : (used n : ℕ) → used ≤ room_of n → used ≤ n
 inside used n h = omega arith
@@ -17,12 +18,12 @@ returns-then-find c =
     let t = told_again c.args.self.now.words.now c.args.self.now.used (room c.args.self.now) c.args.key.now (inside c.args.self.now.used (length c.args.self.now.words.now) c.args.self.now.within) (sym c.if-find.ensures) in
     record { keeps = t.keeps; value = t.value; used = t.after; words = t.words }
 
-pub returns-then-key-eq0 : goal.returns-then-key-eq0
-returns-then-key-eq0 c =
+pub returns-then-is_empty : goal.returns-then-is_empty
+returns-then-is_empty c =
     let long = length-take-le c.args.self.now.used c.args.self.now.words.now (inside c.args.self.now.used (length c.args.self.now.words.now) c.args.self.now.within) in
-    let way : (length c.args.key.now ≡ 0) ⊎ (room c.args.self.now - length (used_words c.args.self.now) ≤ length c.args.key.now) = elim c.then-key-eq0.branch [
-      | then-key-eq0-via-then-key-eq0 w ↦ inl w.if-key-eq0.true
-      | then-key-eq0-via-else-key-eq0+then-key-room w ↦ inr (omega (arith, long, c.min-room.ensures, w.if-key-room.true))
+    let way : (length c.args.key.now ≡ 0) ⊎ (room c.args.self.now - length (used_words c.args.self.now) ≤ length c.args.key.now) = elim c.then-is_empty.branch [
+      | then-is_empty-via-then-is_empty w ↦ inl (eqb-true (length c.args.key.now) 0 (sym c.is_empty.ensures ∙ w.if-is_empty.true))
+      | then-is_empty-via-else-is_empty+then-key-room w ↦ inr (omega (arith, long, c.min-room.ensures, w.if-key-room.true))
     ] in
     let t = told_lost c.args.self.now.words.now c.args.self.now.used (room c.args.self.now) c.args.key.now (inside c.args.self.now.used (length c.args.self.now.words.now) c.args.self.now.within) (sym c.if-find.ensures)
     (fits_not (length c.args.key.now) (room c.args.self.now) (length (used_words c.args.self.now)) way) in
@@ -51,7 +52,7 @@ returns c =
     c.write.ensures.words in
     let first = inside c.args.self.now.used (length c.args.self.now.words.now) c.args.self.now.within in
     let long = length-take-le c.args.self.now.used c.args.self.now.words.now first in
-    let fitting = fits_so (length c.args.key.now) (room c.args.self.now) (length (used_words c.args.self.now)) c.if-key-eq0.false (omega (arith, long, c.min-room.ensures, c.if-key-room.false)) in
+    let fitting = fits_so (length c.args.key.now) (room c.args.self.now) (length (used_words c.args.self.now)) (eqb-false (length c.args.key.now) 0 (sym c.is_empty.ensures ∙ c.if-is_empty.false)) (omega (arith, long, c.min-room.ensures, c.if-key-room.false)) in
     let t = told_joins c.args.self.now.words.now c.write.new.self.words.now c.args.self.now.used (room c.args.self.now) c.args.key.now
     (take (c.args.self.now.used + 1 + length c.args.key.now) c.write.new.self.words.now) first c.args.self.now.whole short (sym c.if-find.ensures) fitting g.front c.write.ensures.words in
     record {
