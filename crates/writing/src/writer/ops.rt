@@ -1,0 +1,53 @@
+// What a writer does.
+ghost use Rattle.std.specs.Prelude.{◌≡◌, decimal};
+ghost use Rattle.writing.specs.Written.{Wrote};
+
+use crate::writer::Writer;
+
+impl<'a> Writer<'a> {
+    // A writer from the front of the memory on.
+    pub fn new(out: &'a mut [u8]) -> Writer<'a>
+        ensures place { result.at ≡ 0 }
+        ensures bytes { result.out.now ≡ out.old }
+        ensures same { result.out.ghost_name ≡ out.entry.ghost_name }
+    {
+        Writer { out, at: 0 }
+    }
+
+    // A writer from a place of the memory on.
+    pub fn from_place(out: &'a mut [u8], place: usize) -> Writer<'a>
+        ensures place { result.at ≡ place }
+        ensures bytes { result.out.now ≡ out.old }
+        ensures same { result.out.ghost_name ≡ out.entry.ghost_name }
+    {
+        Writer { out, at: place }
+    }
+
+    // The place behind what was written.
+    pub fn place(&self) -> usize
+        ensures { result ≡ self.now.at }
+    {
+        self.at
+    }
+
+    // Writes the bytes, as many as fit.
+    pub fn put(&mut self, bytes: &[u8])
+        ensures { Wrote bytes.now self.old self.new }
+    {
+        if self.at < self.out.len() {
+            let count = bytes.len().min(self.out.len() - self.at);
+            self.out[self.at..self.at + count].copy_from_slice(&bytes[..count]);
+        }
+        self.at = self.at.saturating_add(bytes.len());
+    }
+
+    // Writes the number in decimal, without leading zeros.
+    pub fn put_number(&mut self, number: u64)
+        ensures { Wrote (decimal number) self.old self.new }
+    {
+        if number >= 10 {
+            self.put_number(number / 10);
+        }
+        self.put(&[b'0' + (number % 10) as u8]);
+    }
+}
