@@ -1,12 +1,12 @@
 -- The bytes and the lengths of records.
-use Rattle.std.proofs.Common.{◌≡◌, ℕ, ◌+◌, ◌*◌, ◌/◌, ◌%◌, List, [], ◌∷◌, ◌++◌, length, sym, refl, ◌∙◌, arith}
+use Rattle.std.proofs.Common.{◌≡◌, ℕ, ◌+◌, ◌*◌, ◌/◌, ◌%◌, List, [], ◌∷◌, length, sym, refl, ◌∙◌, arith}
 use native.Mathlib.Nat.{div-div-eq-div-mul}
 use Rattle.std.proofs.lemmas.List.{length-append}
 use Rattle.rows.specs.Rows.{RowData}
 use Rattle.rows.specs.Bytes.{total_bytes}
 use Rattle.writing.proofs.RowBytes.{row_length}
 use Rattle.writing.specs.WrittenRows.{written_row}
-use Rattle.sheets.specs.Sheets.{low_first, voice_record, voice_records, row_records, records, sheet}
+use Rattle.sheets.specs.Sheets.{low_first, voice_records, row_records, records, sheet}
 
 -- the eight bytes of a set
 pub low_first_8 : (n : ℕ)

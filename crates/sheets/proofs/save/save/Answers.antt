@@ -1,15 +1,14 @@
 use Rattle.std.proofs.Common.{◌≡◌, ℕ, ◌+◌, ◌*◌, ◌<◌, ◌≤◌, List, length, vec_items, sym, ap, ◌∙◌, ap₂, arith, rules}
 use Rattle.std.proofs.lemmas.List.Folds.{flat_map-map}
-use Rattle.rows.specs.Rows.{RowData}
 use Rattle.rows.specs.Views.{row_of}
 use Rattle.planner.specs.Shown.{model, store_in, rows_in}
 use Rattle.writing.specs.Written.{written}
 use Rattle.writing.specs.WrittenRows.{written_row}
 use Rattle.writing.proofs.Texts.{wrote_two, same_text}
-use Rattle.sheets.specs.Sheets.{sheet, row_records, voice_records}
+use Rattle.sheets.specs.Sheets.{row_records, voice_records}
 use Rattle.sheets.specs.Saving.{sheet_of}
 use Rattle.sheets.proofs.LawsHold.{saves_again}
-use Rattle.sheets.proofs.Pieces.{voices_length, rows_length, sheet_length}
+use Rattle.sheets.proofs.Pieces.{sheet_length}
 use Rattle.sheets.proofs.SavedBytes.{short_answer, short_after, saved_answer, saved_after}
 use Rattle.sheets.proofs.save.save.Goals as goal
 

@@ -1,5 +1,4 @@
-use Rattle.std.proofs.Common.{ℕ, List, [], ◌∷◌, ap}
-use Rattle.rows.specs.declared.member.Member.{Member}
+use Rattle.std.proofs.Common.{ℕ, [], ◌∷◌, ap}
 use Rattle.writing.specs.WrittenRows.{written_members}
 use Rattle.writing.proofs.Texts.{wrote_two, same_text}
 use Rattle.sheets.proofs.record.RowRecord.write.Goals as goal
