@@ -33,10 +33,12 @@ fn read_values<'a, B: Bank, S: Store>(
 fn write_table<B: Bank, S: Store>(table: &Table<B, S>, writer: &mut Writer)
     ensures { Wrote (table_text (model table.now 0)) writer.old writer.new }
 {
+    let opened = table.opened();
+    let exhausted = table.exhausted();
     let mut values = [0u8; MOST_VOICES];
     put_outcome(writer, table.outcome());
-    put_count(writer, b"opened", table.opened());
-    put_count(writer, b"exhausted", table.exhausted());
+    put_count(writer, b"opened", opened);
+    put_count(writer, b"exhausted", exhausted);
     put_values(writer, read_values(table, &mut values));
 }
 

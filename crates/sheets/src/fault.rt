@@ -1,5 +1,5 @@
 // Why a sheet is declined.
-ghost use Rattle.std.specs.Prelude.{◌≡◌, Some};
+ghost use Rattle.std.specs.Prelude.{◌≡◌, Some, decimal};
 ghost use Rattle.sheets.specs.declared.fault.Cause.TheVariants.{Declined};
 ghost use Rattle.sheets.specs.Causes.{cause_number, layer_name, cause_layer, cause_offset};
 
@@ -83,6 +83,15 @@ impl Cause {
             Cause::Trailing => 1,
             _ => 0,
         }
+    }
+}
+
+// The refusal's number, in decimal.
+impl fmt::Display for Cause {
+    ghost output = { λ cause. Some (decimal (cause_number cause)) };
+
+    fn fmt<W: fmt::Write>(&self, f: &mut fmt::Formatter<W>) -> fmt::Result {
+        write!(f, "{}", self.number())
     }
 }
 

@@ -1,5 +1,5 @@
 -- Texts that a writer writes one behind the other.
-use Rattle.std.proofs.Common.{◌≡◌, ℕ, ◌+◌, ◌-◌, ◌/◌, ◌%◌, ◌^◌, ◌<◌, ◌≤◌, min, List, [], ◌∷◌, ◌++◌, length, take, get_or, flat_map, decimal, append-nil, mod-eq_of_lt, inl, inr, sym, refl, ap, ◌∙◌, subst, arith}
+use Rattle.std.proofs.Common.{◌≡◌, ℕ, ◌+◌, ◌-◌, ◌/◌, ◌%◌, ◌^◌, ◌<◌, ◌≤◌, min, List, [], ◌∷◌, ◌++◌, length, take, get_or, flat_map, decimal, append-nil, mod-eq_of_lt, inl, inr, sym, refl, ap, ◌∙◌, ap₂, subst, arith}
 use Rattle.std.proofs.lemmas.Fmt.{decimal_digit, decimal_step}
 use Rattle.std.proofs.lemmas.Grind.{flat_map-append}
 use Rattle.std.proofs.lemmas.List.{length-append, take_more}
@@ -44,6 +44,10 @@ same_text {xs} {ys} {before} {after} e p = subst (λ (l : List ℕ). Wrote l bef
 -- a text written by an equal writer
 pub same_start : {xs : List ℕ} {first before after : Writer} → before ≡ first → Wrote xs before after → Wrote xs first after
 same_start {xs} {first} {before} {after} e p = subst (λ (w : Writer). Wrote xs w after) e p
+
+-- a text written at the front of a buffer
+pub wrote_front : {xs buffer : List ℕ} {first last : Writer} → first.at ≡ 0 → first.out.now ≡ buffer → Wrote xs first last → last.out.now ≡ written 0 xs buffer
+wrote_front {xs} a b p = p.buffer ∙ ap₂ (λ (n : ℕ) (l : List ℕ). written n xs l) a b
 
 -- ---- numbers
 

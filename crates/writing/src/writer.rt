@@ -1,5 +1,5 @@
 // Lent memory that is written from a place on, piece after piece.
-ghost use Rattle.std.specs.Prelude.{◌^◌, ◌<◌, length};
+ghost use Rattle.std.specs.Prelude.{◌≡◌, ◌^◌, ◌<◌, length};
 
 pub mod ops;
 
@@ -10,4 +10,31 @@ pub struct Writer<'a> {
     at: usize,
     ghost counted: { at < 2 ^ 64 },
     ghost bounded: { length out.now < 2 ^ 64 },
+}
+
+impl<'a> Writer<'a> {
+    // A writer from the front of the memory on.
+    pub fn new(out: &'a mut [u8]) -> Writer<'a>
+        ensures place { result.at ≡ 0 }
+        ensures bytes { result.out.now ≡ out.old }
+        ensures same { result.out.ghost_name ≡ out.entry.ghost_name }
+    {
+        Writer { out, at: 0 }
+    }
+
+    // A writer from a place of the memory on.
+    pub fn from_place(out: &'a mut [u8], place: usize) -> Writer<'a>
+        ensures place { result.at ≡ place }
+        ensures bytes { result.out.now ≡ out.old }
+        ensures same { result.out.ghost_name ≡ out.entry.ghost_name }
+    {
+        Writer { out, at: place }
+    }
+
+    // The place behind what was written.
+    pub fn place(&self) -> usize
+        ensures { result ≡ self.now.at }
+    {
+        self.at
+    }
 }

@@ -1,35 +1,10 @@
-// What a writer does.
-ghost use Rattle.std.specs.Prelude.{◌≡◌, decimal};
+// What a writer writes.
+ghost use Rattle.std.specs.Prelude.{decimal};
 ghost use Rattle.writing.specs.Written.{Wrote};
 
 use crate::writer::Writer;
 
-impl<'a> Writer<'a> {
-    // A writer from the front of the memory on.
-    pub fn new(out: &'a mut [u8]) -> Writer<'a>
-        ensures place { result.at ≡ 0 }
-        ensures bytes { result.out.now ≡ out.old }
-        ensures same { result.out.ghost_name ≡ out.entry.ghost_name }
-    {
-        Writer { out, at: 0 }
-    }
-
-    // A writer from a place of the memory on.
-    pub fn from_place(out: &'a mut [u8], place: usize) -> Writer<'a>
-        ensures place { result.at ≡ place }
-        ensures bytes { result.out.now ≡ out.old }
-        ensures same { result.out.ghost_name ≡ out.entry.ghost_name }
-    {
-        Writer { out, at: place }
-    }
-
-    // The place behind what was written.
-    pub fn place(&self) -> usize
-        ensures { result ≡ self.now.at }
-    {
-        self.at
-    }
-
+impl Writer<'_> {
     // Writes the bytes, as many as fit.
     pub fn put(&mut self, bytes: &[u8])
         ensures { Wrote bytes.now self.old self.new }

@@ -1,10 +1,10 @@
-use Rattle.std.proofs.Common.{◌≡◌, ℕ, ◌+◌, ◌*◌, ◌<◌, ◌≤◌, List, length, vec_items, sym, ap, ◌∙◌, ap₂, arith, rules}
+use Rattle.std.proofs.Common.{◌≡◌, ◌+◌, ◌*◌, ◌<◌, ◌≤◌, length, vec_items, sym, ap, ◌∙◌, arith, rules}
 use Rattle.std.proofs.lemmas.List.Folds.{flat_map-map}
 use Rattle.rows.specs.Views.{row_of}
 use Rattle.planner.specs.Shown.{model, store_in, rows_in}
 use Rattle.writing.specs.Written.{written}
 use Rattle.writing.specs.WrittenRows.{written_row}
-use Rattle.writing.proofs.Texts.{wrote_two, same_text}
+use Rattle.writing.proofs.Texts.{wrote_two, same_text, wrote_front}
 use Rattle.sheets.specs.Sheets.{row_records, voice_records}
 use Rattle.sheets.specs.Saving.{sheet_of}
 use Rattle.sheets.proofs.LawsHold.{saves_again}
@@ -36,7 +36,7 @@ returns g c =
     let text = wrote_two (wrote_two voices rows) c.put.ensures in
     let same = text.same ∙ c.new-writer.ensures.same in
     let bytes : c.put.new.self.out.now ≡ written 0 (sheet_of c.args.table.now) c.args.out.now =
-    text.buffer ∙ ap₂ (λ (n : ℕ) (l : List ℕ). written n (sheet_of c.args.table.now) l) c.new-writer.ensures.place c.new-writer.ensures.bytes in
+    wrote_front c.new-writer.ensures.place c.new-writer.ensures.bytes text in
     record {
       value = saved_answer (sheet_of t) out (9 * length c.voices.result.now + c.row_bytes.result + 1) long fits;
       after = search (rules, same) ∙ saved_after (sheet_of t) out c.put.new.self.out.now bytes fits;
