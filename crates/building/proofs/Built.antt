@@ -6,6 +6,7 @@ use Rattle.std.proofs.lemmas.Bool.{leb-true, le-leb}
 use Rattle.std.proofs.lemmas.List.{take_all, length-append}
 use Rattle.rows.specs.declared.member.Member.{Member}
 use Rattle.rows.specs.Rows.{Meaning}
+use Rattle.writing.specs.Written.{written}
 use Rattle.writing.specs.WrittenRows.{written_members}
 use Rattle.writing.proofs.RowBytes.{members_length}
 use Rattle.stores.specs.Stores.{View}
@@ -15,13 +16,13 @@ use Rattle.building.specs.declared.fault.BuildFault.{BuildFault}
 use Rattle.building.specs.declared.fault.BuildFault.TheVariants.{AllGiven, ShortMemory, MembersMissing}
 use Rattle.building.specs.declared.ticket.Ticket.{Ticket}
 use Rattle.building.specs.declared.ticket.Declined.{Declined}
-use Rattle.building.specs.Building.{Verdict, checked, written, row_length, next_place, new_ticket, further, begin_verdict, begin_answer, begin_memory, close_verdict}
+use Rattle.building.specs.Building.{Verdict, checked, row_length, next_place, new_ticket, further, begin_verdict, begin_answer, begin_memory, close_verdict}
 use Rattle.building.specs.declared.ticket.CloseFault.{CloseFault}
 use Rattle.building.specs.declared.ticket.CloseFault.TheVariants.{HandedBack, Posting}
 use Rattle.building.specs.declared.refusal.BuildRefusal.{BuildRefusal}
 use Rattle.building.specs.Closing.{close_answer, handed_back, to_hand_back, row_in, Posts, PostLasts}
 use Rattle.building.specs.Whole.{left, members_answer, members_memory, row_bytes, count_verdict, and_then, build_verdict, build_memory, refusal_of, build_answer, own_fault}
-use Rattle.building.proofs.Writings.{written_more, written_front}
+use Rattle.building.proofs.Writings.{written_more, read_front}
 use Rattle.building.proofs.Verdicts.{checked_passed, ticket_passed, ticket_failed, begin_room, stays, posts_same, lasts_same}
 
 -- ---- Begin declines
@@ -32,8 +33,8 @@ pub not_begun : (m : Meaning) (letter : ℕ) (body mem after : List ℕ) (member
 not_begun m letter body mem after members f e w =
     let v = ticket_failed (begin_verdict m letter body (length mem)) (new_ticket body) f e in (
       ap (λ (x : Verdict). and_then x (count_verdict body members)) v,
-      w ∙ ap (λ (x : Verdict). cond (is_ok x) (written mem 0 (letter ∷ body)) mem) v
-          ∙ sym (ap (λ (x : Verdict). cond (is_ok x) (written mem 0 (row_bytes letter body (take (get_or body 0 0) members))) mem) v),
+      w ∙ ap (λ (x : Verdict). cond (is_ok x) (written 0 (letter ∷ body) mem) mem) v
+          ∙ sym (ap (λ (x : Verdict). cond (is_ok x) (written 0 (row_bytes letter body (take (get_or body 0 0) members)) mem) mem) v),
     )
 
 -- ---- Begin accepts
@@ -41,19 +42,19 @@ not_begun m letter body mem after members f e w =
 -- the memory after Begin, and after the members
 pub filled : (m : Meaning) (letter : ℕ) (body mem begun after : List ℕ) (members : List Member) (t : Ticket)
     → Ok t ≡ begin_answer m letter body (length mem) → begun ≡ begin_memory m letter body mem → after ≡ members_memory t members begun
-    → (after ≡ build_memory m letter body members mem) × (after ≡ written mem 0 (row_bytes letter body (take (get_or body 0 0) members)))
+    → (after ≡ build_memory m letter body members mem) × (after ≡ written 0 (row_bytes letter body (take (get_or body 0 0) members)) mem)
 filled m letter body mem begun after members t e b w =
     let n = get_or body 0 0 in
     let new = new_ticket body in
     let p = ticket_passed (begin_verdict m letter body (length mem)) t new e in
     let room = begin_room m letter body (length mem) p.0 in
-    let front : begun ≡ written mem 0 (letter ∷ body) = b ∙ ap (λ (x : Verdict). cond (is_ok x) (written mem 0 (letter ∷ body)) mem) p.0 in
+    let front : begun ≡ written 0 (letter ∷ body) mem = b ∙ ap (λ (x : Verdict). cond (is_ok x) (written 0 (letter ∷ body) mem) mem) p.0 in
     let all : left new ≡ n = omega arith in
-    let whole : after ≡ written mem 0 (row_bytes letter body (take n members)) =
+    let whole : after ≡ written 0 (row_bytes letter body (take n members)) mem =
     w ∙ ap₂ (λ (x : Ticket) (y : List ℕ). members_memory x members y) p.1 front
-    ∙ written_more mem (letter ∷ body) (written_members (take (left new) members)) 0 (next_place new) (omega arith) (omega arith)
-    ∙ ap (λ k. written mem 0 (row_bytes letter body (take k members))) all in (
-      whole ∙ sym (ap (λ (x : Verdict). cond (is_ok x) (written mem 0 (row_bytes letter body (take n members))) mem) p.0),
+    ∙ written_more mem (letter ∷ body) (written_members (take (left new) members)) 0 (next_place new) (omega arith)
+    ∙ ap (λ k. written 0 (row_bytes letter body (take k members)) mem) all in (
+      whole ∙ sym (ap (λ (x : Verdict). cond (is_ok x) (written 0 (row_bytes letter body (take n members)) mem) mem) p.0),
       whole,
     )
 
@@ -83,7 +84,7 @@ too_many m letter body room members t d e w =
 -- enough, or too few: Close decides
 pub closed : (m : Meaning) (letter : ℕ) (body mem after : List ℕ) (members : List Member) (t u : Ticket)
     → Ok t ≡ begin_answer m letter body (length mem) → Ok u ≡ members_answer t members → length after ≡ length mem
-    → after ≡ written mem 0 (row_bytes letter body (take (get_or body 0 0) members))
+    → after ≡ written 0 (row_bytes letter body (take (get_or body 0 0) members)) mem
     → (close_verdict u (length after) ≡ build_verdict m letter body members (length mem))
     × (build_verdict m letter body members (length mem) ≡ Ok tt → row_in u after ≡ row_bytes letter body members)
 closed m letter body mem after members t u e g same w =
@@ -109,8 +110,8 @@ closed m letter body mem after members t u e g same w =
           let enough : n ≤ k = leb-true n k (checked_passed (leb n k) MembersMissing (Ok tt) (sym built ∙ ok)).0 in
           let bytes : List ℕ = row_bytes letter body members in
           let long : length bytes ≡ row_length u = omega (arith, length-append body (written_members members), members_length members, ap row_length whole) in
-          ap (take (row_length u)) (w ∙ ap (λ (x : List Member). written mem 0 (row_bytes letter body x)) (take_all n members (omega arith)))
-          ∙ written_front mem bytes (row_length u) long),
+          ap (take (row_length u)) (w ∙ ap (λ (x : List Member). written 0 (row_bytes letter body x) mem) (take_all n members (omega arith)))
+          ∙ read_front mem bytes (row_length u) long (omega (arith, ap row_length whole, room))),
     )
 
 -- ---- the answer of Close as an answer to the whole row

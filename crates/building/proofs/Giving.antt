@@ -3,15 +3,17 @@ use Rattle.std.proofs.Common.{◌≡◌, ℕ, ◌+◌, ◌*◌, ◌/◌, ◌%◌
 use Rattle.std.proofs.lemmas.Bool.{ltb-true, ltb-false, le-leb, lt-leb}
 use Rattle.std.proofs.lemmas.List.{take_more, take_all, length-take-le}
 use Rattle.rows.specs.declared.member.Member.{Member}
+use Rattle.writing.specs.Written.{written}
 use Rattle.writing.specs.WrittenRows.{written_members}
+use Rattle.writing.proofs.Places.{written_none}
 use Rattle.writing.proofs.RowBytes.{members_length}
 use Rattle.building.specs.declared.fault.BuildFault.{BuildFault}
 use Rattle.building.specs.declared.fault.BuildFault.TheVariants.{AllGiven, ShortMemory}
 use Rattle.building.specs.declared.ticket.Ticket.{Ticket}
 use Rattle.building.specs.declared.ticket.Declined.{Declined}
-use Rattle.building.specs.Building.{Verdict, checked, written, row_length, next_place, further, further_or_back, member_verdict, member_answer, one_member, member_memory}
+use Rattle.building.specs.Building.{Verdict, checked, row_length, next_place, further, further_or_back, member_verdict, member_answer, one_member, member_memory}
 use Rattle.building.specs.Whole.{left, members_answer, members_memory}
-use Rattle.building.proofs.Writings.{written_none, written_more, members_push}
+use Rattle.building.proofs.Writings.{written_more, members_push}
 
 -- ---- one member
 
@@ -39,11 +41,11 @@ count_back false f e = (refl, cc)
 
 -- i of the members xs are given, from the ticket t and the memory mem on
 abbrev pub Given : Ticket → List ℕ → List Member → ℕ → Ticket → List ℕ → Type 0
-Given t mem xs i current memory = (i ≤ left t) × (current ≡ further i t) × (memory ≡ written mem (next_place t) (written_members (take i xs)))
+Given t mem xs i current memory = (i ≤ left t) × (current ≡ further i t) × (memory ≡ written (next_place t) (written_members (take i xs)) mem)
 
 pub given_none : (t : Ticket) (mem : List ℕ) (xs : List Member) → Given t mem xs 0 t mem
 given_none t mem xs =
-    (omega arith, (λ i. record { head = t.head; count = t.count; given = sym (add-zero t.given) i }), sym (written_none mem (next_place t)))
+    (omega arith, (λ i. record { head = t.head; count = t.count; given = sym (add-zero t.given) i }), sym (written_none (next_place t) mem))
 
 pub given_more : (t current next : Ticket) (mem memory after : List ℕ) (xs : List Member) (i v : ℕ) (z : ℤ) (x : Member)
     → t.given ≤ t.count → row_length t ≤ length mem → length memory ≡ length mem → i < length xs → Given t mem xs i current memory
@@ -60,10 +62,10 @@ given_more t current next mem memory after xs i v z x few room same h g m e w =
     let long : length old ≡ 4 * i = members_length (take i xs) ∙ ap (λ n. 4 * n) (length-take-le i xs (omega arith)) in (
       omega arith,
       p.1 ∙ ap (further 1) g.1 ∙ (λ j. record { head = t.head; count = t.count; given = add_assoc t.given i 1 j }),
-      w ∙ ap (λ (y : Verdict). cond (is_ok y) (written memory (next_place current) (one_member v z)) memory) p.0
-          ∙ ap₂ (λ (y y' : List ℕ). written y (next_place current) y') g.2 m
-          ∙ written_more mem old (written_members (get_or xs i x ∷ [])) (next_place t) (next_place current) (omega arith) (omega arith)
-          ∙ ap (written mem (next_place t)) (sym (members_push (take i xs) (get_or xs i x)) ∙ ap written_members (sym (take_more xs i x h))),
+      w ∙ ap (λ (y : Verdict). cond (is_ok y) (written (next_place current) (one_member v z) memory) memory) p.0
+          ∙ ap₂ (λ (y y' : List ℕ). written (next_place current) y' y) g.2 m
+          ∙ written_more mem old (written_members (get_or xs i x ∷ [])) (next_place t) (next_place current) (omega arith)
+          ∙ ap (λ (l : List ℕ). written (next_place t) l mem) (sym (members_push (take i xs) (get_or xs i x)) ∙ ap written_members (sym (take_more xs i x h))),
     )
 
 -- all of them
@@ -75,7 +77,7 @@ given_all t current mem memory xs i h g =
     let ok : Ticket → Result Ticket Declined = λ x. Ok x in (
       ap ok (g.1 ∙ ap (λ n. further n t) h)
           ∙ sym (ap (λ b. cond b (Ok (further (length xs) t)) (Err (record { ticket = further k t; fault = AllGiven }))) fits),
-      g.2 ∙ ap (λ (l : List Member). written mem (next_place t) (written_members l)) (take_all i xs (omega arith) ∙ sym (take_all k xs (omega arith))),
+      g.2 ∙ ap (λ (l : List Member). written (next_place t) (written_members l) mem) (take_all i xs (omega arith) ∙ sym (take_all k xs (omega arith))),
     )
 
 -- no more: the row is full
@@ -97,8 +99,8 @@ given_full t current mem memory after xs i v z d few room same h g e w =
     let err : Declined → Result Ticket Declined = λ y. Err y in (
       ap err p.2 ∙ ap₂ back (g.1 ∙ ap (λ n. further n t) end) q.1
           ∙ sym (ap (λ y. cond y (Ok (further (length xs) t)) (Err (record { ticket = further k t; fault = AllGiven }))) many),
-      w ∙ ap (λ (y : Verdict). cond (is_ok y) (written memory (next_place current) (one_member v z)) memory) p.1
-          ∙ g.2 ∙ ap (λ n. written mem (next_place t) (written_members (take n xs))) end,
+      w ∙ ap (λ (y : Verdict). cond (is_ok y) (written (next_place current) (one_member v z) memory) memory) p.1
+          ∙ g.2 ∙ ap (λ n. written (next_place t) (written_members (take n xs)) mem) end,
     )
 
 -- the bytes of a member whose voice is given by its low byte

@@ -1,19 +1,19 @@
 -- What verdicts say of answers, memory and table.
 use Rattle.rows.specs.declared.bank.Bank as bank
 use Rattle.stores.specs.declared.store.Store as store
-use Rattle.std.proofs.Common.{◌≡◌, ℕ, ◌≤◌, Bool, true, false, cond, eqb, List, ◌∷◌, length, set, is_ok, Ok, Err, sym, refl, ap, ◌∙◌, subst}
+use Rattle.std.proofs.Common.{◌≡◌, ℕ, ◌≤◌, Bool, true, false, cond, eqb, List, ◌∷◌, length, is_ok, Ok, Err, sym, refl, ap, ◌∙◌, subst}
 use Rattle.std.proofs.lemmas.Bool.{leb-true}
 use Rattle.rows.specs.Rows.{Meaning}
 use Rattle.stores.specs.Stores.{View}
+use Rattle.writing.specs.Written.{written}
 use Rattle.search.specs.Calls.{Call, Answer}
 use Rattle.planner.specs.declared.table.Table.{Table}
 use Rattle.planner.specs.Shown.{CallDone, CallLasts}
 use Rattle.building.specs.declared.fault.BuildFault.{BuildFault}
 use Rattle.building.specs.declared.fault.BuildFault.TheVariants.{UnknownLetter, BadCount, WrongLength, ShortMemory}
 use Rattle.building.specs.declared.ticket.Ticket.{Ticket}
-use Rattle.building.specs.Building.{Verdict, checked, has_count, has_room, written, row_length, ticket_or_fault, new_ticket, begin_verdict, begin_answer, begin_memory}
+use Rattle.building.specs.Building.{Verdict, checked, has_count, has_room, row_length, ticket_or_fault, new_ticket, begin_verdict, begin_answer, begin_memory}
 use Rattle.building.specs.Closing.{Posts, PostLasts}
-use Rattle.building.proofs.Writings.{first_written}
 
 -- ---- tests
 
@@ -44,11 +44,11 @@ begin_room m letter body room e =
     leb-true (row_length (new_ticket body)) room (checked_passed (has_room (new_ticket body) room) ShortMemory (Ok tt) c.1).0
 
 -- Begin's writing
-pub begun : (m : Meaning) (letter : ℕ) (body mem after : List ℕ) (t : Ticket) → 1 ≤ length mem → Ok t ≡ begin_answer m letter body (length mem)
-    → after ≡ written (set mem 0 letter) 1 body → after ≡ begin_memory m letter body mem
-begun m letter body mem after t h e w =
+pub begun : (m : Meaning) (letter : ℕ) (body mem after : List ℕ) (t : Ticket) → Ok t ≡ begin_answer m letter body (length mem)
+    → after ≡ written 0 (letter ∷ body) mem → after ≡ begin_memory m letter body mem
+begun m letter body mem after t e w =
     let v = begin_verdict m letter body (length mem) in
-    w ∙ first_written mem body letter h ∙ sym (ap (λ (x : Verdict). cond (is_ok x) (written mem 0 (letter ∷ body)) mem) (ticket_passed v t (new_ticket body) e).0)
+    w ∙ sym (ap (λ (x : Verdict). cond (is_ok x) (written 0 (letter ∷ body) mem) mem) (ticket_passed v t (new_ticket body) e).0)
 
 -- ---- the table
 

@@ -1,15 +1,12 @@
 -- A row built step by step: what Begin and Member answer, and what they leave in memory.
-use Rattle.std.specs.Prelude.{ℕ, ◌+◌, ◌*◌, Bool, cond, ◌&&◌, List, [], ◌∷◌, ◌++◌, length, take, drop, ℤ, is_ok, Ok, Err, Result, ◌==◌, nat_le, nat_lt, slice_index}
+use Rattle.std.specs.Prelude.{ℕ, ◌+◌, ◌*◌, Bool, cond, ◌&&◌, List, [], ◌∷◌, length, ℤ, is_ok, Ok, Err, Result, ◌==◌, nat_le, nat_lt, slice_index}
 use Rattle.rows.specs.Rows.{Meaning}
+use Rattle.writing.specs.Written.{written}
 use Rattle.writing.specs.WrittenRows.{written_members}
 use Rattle.building.specs.declared.fault.BuildFault.{BuildFault}
 use Rattle.building.specs.declared.fault.BuildFault.TheVariants.{UnknownLetter, BadCount, WrongLength, ShortMemory, AllGiven, MembersMissing}
 use Rattle.building.specs.declared.ticket.Ticket.{Ticket}
 use Rattle.building.specs.declared.ticket.Declined.{Declined}
-
--- memory with these bytes written from a place on; the others stay
-abbrev pub written : List ℕ → ℕ → List ℕ → List ℕ
-written memory place bytes = take place memory ++ (bytes ++ drop (place + length bytes) memory)
 
 -- ---- the ticket
 
@@ -75,7 +72,7 @@ begin_answer m letter body room = ticket_or_fault (begin_verdict m letter body r
 
 -- the memory afterwards: letter and body at its front
 abbrev pub begin_memory : Meaning → ℕ → List ℕ → List ℕ → List ℕ
-begin_memory m letter body memory = cond (is_ok (begin_verdict m letter body (length memory))) (written memory 0 (letter ∷ body)) memory
+begin_memory m letter body memory = cond (is_ok (begin_verdict m letter body (length memory))) (written 0 (letter ∷ body) memory) memory
 
 -- ---- Member
 
@@ -94,4 +91,4 @@ one_member voice argument = written_members (record { voice = voice; argument = 
 
 -- the memory afterwards: the member at its place
 abbrev pub member_memory : Ticket → ℕ → ℤ → List ℕ → List ℕ
-member_memory t voice argument memory = cond (is_ok (member_verdict t (length memory))) (written memory (next_place t) (one_member voice argument)) memory
+member_memory t voice argument memory = cond (is_ok (member_verdict t (length memory))) (written (next_place t) (one_member voice argument) memory) memory

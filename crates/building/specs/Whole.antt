@@ -2,6 +2,7 @@
 use Rattle.std.specs.Prelude.{ℕ, ◌-◌, cond, List, length, take, is_ok, Ok, Err, Result, nat_le, slice_index}
 use Rattle.rows.specs.declared.member.Member.{Member}
 use Rattle.rows.specs.Rows.{Meaning}
+use Rattle.writing.specs.Written.{written}
 use Rattle.writing.specs.WrittenRows.{written_members, written_row}
 use Rattle.search.specs.Calls.{Answer}
 use Rattle.building.specs.declared.fault.BuildFault.TheVariants.{AllGiven, MembersMissing}
@@ -12,7 +13,7 @@ use Rattle.building.specs.declared.ticket.Declined.{Declined}
 use Rattle.building.specs.declared.ticket.CloseFault.{CloseFault}
 use Rattle.building.specs.declared.ticket.CloseFault.TheVariants as closing
 use Rattle.building.specs.Numbers.{build_number}
-use Rattle.building.specs.Building.{Verdict, checked, begin_verdict, written, next_place, further}
+use Rattle.building.specs.Building.{Verdict, checked, begin_verdict, next_place, further}
 
 -- ---- members given one after the other
 
@@ -27,7 +28,7 @@ members_answer t members =
 
 -- the memory afterwards: as many of them as the row has
 abbrev pub members_memory : Ticket → List Member → List ℕ → List ℕ
-members_memory t members memory = written memory (next_place t) (written_members (take (left t) members))
+members_memory t members memory = written (next_place t) (written_members (take (left t) members)) memory
 
 -- ---- the whole row
 
@@ -52,7 +53,7 @@ build_verdict m letter body members room = and_then (begin_verdict m letter body
 -- the memory afterwards: where Begin accepts, the row with the members that were given stands at its front
 abbrev pub build_memory : Meaning → ℕ → List ℕ → List Member → List ℕ → List ℕ
 build_memory m letter body members memory =
-    cond (is_ok (begin_verdict m letter body (length memory))) (written memory 0 (row_bytes letter body (take (slice_index body 0) members))) memory
+    cond (is_ok (begin_verdict m letter body (length memory))) (written 0 (row_bytes letter body (take (slice_index body 0) members)) memory) memory
 
 -- what Close declines, as a refusal of the whole row
 abbrev pub refusal_of : CloseFault → BuildRefusal

@@ -1,8 +1,10 @@
 // Why a step of building a row declines.
-ghost use Rattle.std.specs.Prelude.{◌≡◌};
+ghost use Rattle.std.specs.Prelude.{◌≡◌, Some, decimal};
 ghost use Rattle.building.specs.Numbers.{fault_number};
 
-#[derive(Clone, Copy)]
+use std::fmt;
+
+#[derive(Clone, Copy, Debug, PartialEq, Eq)]
 pub enum BuildFault {
     // Begin: the bank does not know the letter
     UnknownLetter,
@@ -31,5 +33,14 @@ impl BuildFault {
             BuildFault::AllGiven => 17,
             BuildFault::MembersMissing => 18,
         }
+    }
+}
+
+// The refusal's number, in decimal.
+impl fmt::Display for BuildFault {
+    ghost output = { λ fault. Some (decimal (fault_number fault)) };
+
+    fn fmt<W: fmt::Write>(&self, f: &mut fmt::Formatter<W>) -> fmt::Result {
+        write!(f, "{}", self.number())
     }
 }

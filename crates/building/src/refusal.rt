@@ -1,5 +1,5 @@
 // Why a whole row is not built and posted.
-ghost use Rattle.std.specs.Prelude.{◌≡◌};
+ghost use Rattle.std.specs.Prelude.{◌≡◌, Some, decimal};
 ghost use Rattle.building.specs.declared.refusal.BuildRefusal.TheVariants.{Building};
 ghost use Rattle.building.specs.Numbers.{build_number};
 ghost use Rattle.building.specs.Whole.{refusal_of};
@@ -8,6 +8,7 @@ use crate::fault::BuildFault;
 use crate::steps::scrap;
 use crate::ticket::{CloseFault, Declined};
 use planner::refusal::Refusal;
+use std::fmt;
 
 // A step of building declines, or Post does.
 #[derive(Clone, Copy)]
@@ -25,6 +26,15 @@ impl BuildRefusal {
             BuildRefusal::Building(fault) => fault.number(),
             BuildRefusal::Posting(refusal) => refusal.number(),
         }
+    }
+}
+
+// The refusal's number, in decimal.
+impl fmt::Display for BuildRefusal {
+    ghost output = { λ refusal. Some (decimal (build_number refusal)) };
+
+    fn fmt<W: fmt::Write>(&self, f: &mut fmt::Formatter<W>) -> fmt::Result {
+        write!(f, "{}", self.number())
     }
 }
 

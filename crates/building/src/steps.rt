@@ -1,6 +1,6 @@
 // The steps of building a row: Begin, Member, Close and Scrap.
-ghost use Rattle.std.specs.Prelude.{◌≡◌, ◌+◌, ◌≤◌, length};
-ghost use Rattle.building.specs.Building.{written, close_verdict, begin_answer, begin_memory, member_answer, member_memory};
+ghost use Rattle.std.specs.Prelude.{◌≡◌, length};
+ghost use Rattle.building.specs.Building.{close_verdict, begin_answer, begin_memory, member_answer, member_memory};
 ghost use Rattle.building.specs.Closing.{close_answer, handed_back, to_hand_back, row_in, Posts, PostLasts};
 
 use crate::fault::BuildFault;
@@ -10,25 +10,16 @@ use rows::bank::Bank;
 use rows::member::MEMBER_MARK;
 use rows::row::MOST_MEMBERS;
 use stores::store::Store;
-
-// Writes the bytes from a place on; the other bytes stay.
-fn write_at(memory: &mut [u8], place: usize, bytes: &[u8])
-    requires { place + length bytes.now ≤ length memory.old }
-    ensures { memory.new ≡ written memory.old place bytes.now }
-{
-    memory[place..place + bytes.len()].copy_from_slice(bytes);
-}
+use writing::writer::Writer;
 
 // The ticket of letter and body, if the bank and the memory have room for their row.
 fn open_row<B: Bank>(letter: u8, body: &[u8], room: usize) -> Result<Ticket, BuildFault>
     ensures { result ≡ begin_answer B.Bank.meaning letter body.now room }
 {
     let length = B::body_length(letter).ok_or(BuildFault::UnknownLetter)?;
-    if body.is_empty() {
-        return Err(BuildFault::BadCount);
-    }
-    let count = usize::from(body[0]);
-    if count < 1 || count > MOST_MEMBERS {
+    let first = *body.first().ok_or(BuildFault::BadCount)?;
+    let count = usize::from(first);
+    if !(1..=MOST_MEMBERS).contains(&count) {
         return Err(BuildFault::BadCount);
     }
     if body.len() != length {
@@ -37,7 +28,7 @@ fn open_row<B: Bank>(letter: u8, body: &[u8], room: usize) -> Result<Ticket, Bui
     if room < 1 + length + 4 * count {
         return Err(BuildFault::ShortMemory);
     }
-    Ok(Ticket::new((1 + length) as u8, body[0]))
+    Ok(Ticket::new((1 + length) as u8, first))
 }
 
 // Begins a row: writes letter and body at the front of the memory.
@@ -46,8 +37,9 @@ pub fn begin<B: Bank>(letter: u8, body: &[u8], memory: &mut [u8]) -> Result<Tick
     ensures after { memory.new ≡ begin_memory B.Bank.meaning letter body.now memory.old }
 {
     let ticket = open_row::<B>(letter, body, memory.len())?;
-    memory[0] = letter;
-    write_at(memory, 1, body);
+    let mut writer = Writer::new(memory);
+    writer.put(&[letter]);
+    writer.put(body);
     Ok(ticket)
 }
 
@@ -65,11 +57,8 @@ pub fn give_member(
         return Err(Declined { ticket, fault });
     }
     let [low, high] = argument.to_le_bytes();
-    write_at(
-        memory,
-        ticket.next_place(),
-        &[MEMBER_MARK, voice, low, high],
-    );
+    let mut writer = Writer::from_place(memory, ticket.next_place());
+    writer.put(&[MEMBER_MARK, voice, low, high]);
     Ok(ticket.advanced())
 }
 
@@ -88,10 +77,8 @@ pub fn close<B: Bank, S: Store>(
     }
     let length = ticket.row_length();
     scrap(ticket);
-    match table.post(&memory[0..length]) {
-        Ok(()) => Ok(()),
-        Err(refusal) => Err(CloseFault::Posting(refusal)),
-    }
+    table.post(&memory[..length])?;
+    Ok(())
 }
 
 // Scraps the row: the ticket is spent, and nothing is posted.

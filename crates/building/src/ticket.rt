@@ -1,5 +1,6 @@
 // The ticket of a row that is being built, and what hands it back.
 ghost use Rattle.std.specs.Prelude.{◌≡◌, ◌<◌};
+ghost use Rattle.building.specs.declared.ticket.CloseFault.TheVariants.{Posting};
 ghost use Rattle.building.specs.Building.{further, row_length, next_place, member_verdict, close_verdict};
 
 use crate::fault::BuildFault;
@@ -23,6 +24,14 @@ pub struct Declined {
 pub enum CloseFault {
     HandedBack(Declined),
     Posting(Refusal),
+}
+
+impl From<Refusal> for CloseFault {
+    ghost from_gives = { λ refusal r. r ≡ Posting refusal };
+
+    fn from(refusal: Refusal) -> CloseFault {
+        CloseFault::Posting(refusal)
+    }
 }
 
 impl Ticket {

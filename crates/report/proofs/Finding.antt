@@ -1,7 +1,8 @@
 -- What a Read leaves of what was found.
 use Rattle.rows.specs.declared.bank.Bank as bank
 use Rattle.stores.specs.declared.store.Store as store
-use Rattle.std.proofs.Common.{◌≡◌, ℕ, ◌≤◌, Bool, not, ltb, List, [], ◌∷◌, ◌++◌, length, take, drop, vec_items, sym, refl, ap, ◌∙◌, ap₂, arith, le-ltb}
+use Rattle.std.proofs.Common.{◌≡◌, ℕ, ◌≤◌, Bool, not, ltb, List, [], ◌∷◌, ◌++◌, length, take, drop, vec_items, Ok, Err, Result, sym, refl, ap, ◌∙◌, ap₂, arith, le-ltb}
+use Rattle.std.specs.Result.{result_unwrap_or}
 use Rattle.std.proofs.lemmas.List.{length-map, take_at}
 use Rattle.sets.specs.Sets.{least}
 use Rattle.rows.specs.Rows.{Meaning}
@@ -16,7 +17,9 @@ use Rattle.engine.specs.declared.level.End.TheVariants.{Fresh, Found, Exhausted}
 use Rattle.engine.specs.Places.{place_of}
 use Rattle.engine.specs.Searches.{levels_of}
 use Rattle.planner.specs.declared.table.Table as tables
-use Rattle.planner.specs.Shown.{found_in}
+use Rattle.planner.specs.declared.refusal.Refusal.{Refusal}
+use Rattle.planner.specs.Refusals.{refusal_number}
+use Rattle.planner.specs.Shown.{found_in, read_answer}
 
 -- there are no more values than sets
 pub result_length : (e : End) (sets : List ℕ) (levels : List Level) → length (result (place_of e sets levels)) ≤ length sets
@@ -30,7 +33,7 @@ pub found_few : {B S : Type 0} {b : bank.Ghosts B} {s : store.Ghosts S} (t : tab
 found_few t = omega (arith, result_length t.search.end (vec_items t.search.sets) (levels_of t.search), t.search.few, t.search.sets.ok.0)
 
 -- a Read that passes has written the values
-pub read_passed : {m : Meaning} {t u : Table} {v w : View} {buffer : List ℕ} {a : Answer} (k : ℕ) (after : List ℕ) → Does m t v (read buffer) a u w → a ≡ wrote k after
+read_passed : {m : Meaning} {t u : Table} {v w : View} {buffer : List ℕ} {a : Answer} (k : ℕ) (after : List ℕ) → Does m t v (read buffer) a u w → a ≡ wrote k after
     → take k after ≡ result t.place
 read_passed k after (Does.declines c n d) e = cc
 read_passed {t = t} {buffer = buffer} k after (Does.reads b p j f) e =
@@ -38,7 +41,7 @@ read_passed {t = t} {buffer = buffer} k after (Does.reads b p j f) e =
     let l : after ≡ p ++ drop (length p) buffer = cc in
     ap₂ (λ (i : ℕ) (x : List ℕ). take i x) n l ∙ take_at p (drop (length p) buffer) (length p) refl ∙ sym (ap result f)
 
-pub read_count : {m : Meaning} {t u : Table} {v w : View} {buffer : List ℕ} {a : Answer} (k : ℕ) (after : List ℕ) → Does m t v (read buffer) a u w → a ≡ wrote k after
+read_count : {m : Meaning} {t u : Table} {v w : View} {buffer : List ℕ} {a : Answer} (k : ℕ) (after : List ℕ) → Does m t v (read buffer) a u w → a ≡ wrote k after
     → k ≡ length (result t.place)
 read_count k after (Does.declines c n d) e = cc
 read_count {t = t} k after (Does.reads b p j f) e =
@@ -55,7 +58,14 @@ none_found (found p) buffer n h d =
     let f = ap (λ (b : Bool). judge ((16, b) ∷ [])) (le-ltb (length buffer) (length p) h) in
     cc
 
-pub read_declined : {m : Meaning} {t u : Table} {v w : View} {buffer : List ℕ} {a : Answer} (n : ℕ) → Does m t v (read buffer) a u w → a ≡ refused n
+read_declined : {m : Meaning} {t u : Table} {v w : View} {buffer : List ℕ} {a : Answer} (n : ℕ) → Does m t v (read buffer) a u w → a ≡ refused n
     → length (result t.place) ≤ length buffer → [] ≡ result t.place
 read_declined {t = t} {buffer = buffer} n (Does.declines c k d) e h = none_found t.place buffer k h d
 read_declined n (Does.reads b p j f) e h = cc
+
+-- so that as many values as it tells, or none where it is declined, are those that were found
+pub read_found : {m : Meaning} {t u : Table} {v w : View} {buffer : List ℕ} (r : Result ℕ Refusal) (count : ℕ) (after : List ℕ) → Does m t v (read buffer) (read_answer r after) u w
+    → count ≡ result_unwrap_or r 0 → length (result t.place) ≤ length buffer → (count ≡ length (result t.place)) × (take count after ≡ result t.place)
+read_found {t = t} (Ok k) count after d e h = (e ∙ read_count k after d refl, ap (λ (n : ℕ). take n after) e ∙ read_passed k after d refl)
+read_found {t = t} (Err refusal) count after d e h =
+    let none = read_declined (refusal_number refusal) d refl h in (e ∙ ap length none, ap (λ (n : ℕ). take n after) e ∙ none)

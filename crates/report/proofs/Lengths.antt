@@ -2,11 +2,16 @@
 use Rattle.std.proofs.Common.{◌≡◌, ℕ, zero, suc, ◌+◌, ◌*◌, ◌/◌, ◌%◌, ◌^◌, ◌<◌, ◌≤◌, Bool, true, false, cond, eqb, List, [], ◌∷◌, ◌++◌, length, codes, decimal, arith}
 use Rattle.std.specs.Fmt.{digit_glyph, digits_onto, digits}
 use Rattle.std.proofs.lemmas.List.{length-append}
+use Rattle.search.specs.Calls.{Table, result}
 use Rattle.engine.specs.declared.outcome.Outcome.{Outcome}
 use Rattle.engine.specs.declared.outcome.Outcome.TheVariants.{Stopped, Found, None}
 use Rattle.sheets.specs.declared.fault.Layer.{Layer}
 use Rattle.sheets.specs.declared.fault.Layer.TheVariants as layer
-use Rattle.report.specs.Texts.{layer_name, refused_line, outcome_line, count_line, value_line, value_lines}
+use Rattle.engine.specs.Searches.{outcome_of}
+use Rattle.sheets.specs.Causes.{layer_name}
+use Rattle.sheets.specs.Loading.{LoadAnswer}
+use Rattle.sheets.specs.Loading.LoadAnswer.{loaded, declined}
+use Rattle.report.specs.Texts.{refused_line, outcome_line, count_line, value_line, value_lines, table_text, report_text}
 
 -- ---- numbers
 
@@ -57,6 +62,27 @@ layer_name_length layer.Sheet = omega arith
 layer_name_length layer.Row = omega arith
 layer_name_length layer.Table = omega arith
 
-pub refused_line_fits : (number place : ℕ) (l : Layer) → 0 + length (refused_line number place l) < 2 ^ 64
+refused_line_fits : (number place : ℕ) (l : Layer) → length (refused_line number place l) < 2 ^ 64
 refused_line_fits number place l =
     omega (arith, refused_line_length number place l, decimal_at_most number, decimal_at_most place, layer_name_length l)
+
+-- ---- reports
+
+table_text_fits : (t : Table) → length (result t.place) ≤ 80 → length (table_text t) < 2 ^ 64
+table_text_fits t h =
+    omega (
+      arith,
+      length-append (outcome_line (outcome_of t.place)) (count_line (codes "opened") t.opened ++ (count_line (codes "exhausted") t.exhausted ++ value_lines 0 (result t.place))),
+      length-append (count_line (codes "opened") t.opened) (count_line (codes "exhausted") t.exhausted ++ value_lines 0 (result t.place)),
+      length-append (count_line (codes "exhausted") t.exhausted) (value_lines 0 (result t.place)),
+      outcome_line_length (outcome_of t.place),
+      count_line_length (codes "opened") t.opened,
+      decimal_at_most t.opened,
+      count_line_length (codes "exhausted") t.exhausted,
+      decimal_at_most t.exhausted,
+      value_lines_length 0 (result t.place),
+    )
+
+pub report_fits : (a : LoadAnswer) (t : Table) → length (result t.place) ≤ 80 → length (report_text a t) < 2 ^ 64
+report_fits loaded t h = table_text_fits t h
+report_fits (declined number place l) t h = refused_line_fits number place l

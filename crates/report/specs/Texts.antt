@@ -5,7 +5,7 @@ use Rattle.engine.specs.declared.outcome.Outcome.{Outcome}
 use Rattle.engine.specs.declared.outcome.Outcome.TheVariants.{Stopped, Found, None}
 use Rattle.engine.specs.Searches.{outcome_of}
 use Rattle.sheets.specs.declared.fault.Layer.{Layer}
-use Rattle.sheets.specs.declared.fault.Layer.TheVariants as layer
+use Rattle.sheets.specs.Causes.{layer_name}
 use Rattle.sheets.specs.Loading.{LoadAnswer}
 use Rattle.sheets.specs.Loading.LoadAnswer.{loaded, declined}
 
@@ -14,11 +14,6 @@ abbrev pub line_end : List ℕ
 line_end = 0x0A ∷ []
 
 -- ---- a sheet that was declined
-
-abbrev pub layer_name : Layer → List ℕ
-layer_name layer.Sheet = codes "sheet"
-layer_name layer.Row = codes "row"
-layer_name layer.Table = codes "table"
 
 -- as `refused 9 at 18 in row`
 abbrev pub refused_line : ℕ → ℕ → Layer → List ℕ

@@ -2,7 +2,7 @@
 #![tactic(auto)]
 
 ghost use Rattle.std.specs.Prelude.{◌≡◌, ◌≤◌, length, take};
-ghost use Rattle.writing.specs.Written.{Piece};
+ghost use Rattle.writing.specs.Written.{Wrote};
 ghost use Rattle.search.specs.Limits.{most_voices};
 ghost use Rattle.planner.specs.Shown.{model, found_in};
 ghost use Rattle.sheets.specs.Loading.{load_answer};
@@ -15,45 +15,43 @@ use planner::table::{MOST_VOICES, Table};
 use rows::bank::Bank;
 use sheets::fault::SheetFault;
 use stores::store::Store;
+use writing::writer::Writer;
 
 mod lines;
-mod text;
 
-// Writes the found values at the front of `values`, and answers how many; none where nothing was found.
-fn read_values<B: Bank, S: Store>(table: &Table<B, S>, values: &mut [u8]) -> usize
-    requires { most_voices ≤ length values.old }
-    ensures count { result ≡ length (found_in table.now) }
-    ensures front { take result values.new ≡ found_in table.now }
+// The found values, which are written into `values`; none where nothing was found.
+fn read_values<'a, B: Bank, S: Store>(
+    table: &Table<B, S>,
+    values: &'a mut [u8; MOST_VOICES],
+) -> &'a [u8]
+    ensures { result.now ≡ found_in table.now }
 {
-    match table.read(values) {
-        Ok(count) => count,
-        Err(_) => 0,
-    }
+    let count = table.read(values).unwrap_or(0);
+    &values[..count]
 }
 
-fn write_table<B: Bank, S: Store>(table: &Table<B, S>, out: &mut [u8]) -> usize
-    ensures { Piece 0 (table_text (model table.now 0)) out.old out.new result }
+fn write_table<B: Bank, S: Store>(table: &Table<B, S>, writer: &mut Writer)
+    ensures { Wrote (table_text (model table.now 0)) writer.old writer.new }
 {
     let opened = table.opened();
     let exhausted = table.exhausted();
     let mut values = [0u8; MOST_VOICES];
-    let count = read_values(table, &mut values);
-    let at = put_outcome(out, 0, table.outcome());
-    let at = put_count(out, at, b"opened", opened);
-    let at = put_count(out, at, b"exhausted", exhausted);
-    put_values(out, at, &values[0..count])
+    put_outcome(writer, table.outcome());
+    put_count(writer, b"opened", opened);
+    put_count(writer, b"exhausted", exhausted);
+    put_values(writer, read_values(table, &mut values));
 }
 
 fn write_report<B: Bank, S: Store>(
     answer: Result<(), SheetFault>,
     table: &Table<B, S>,
-    out: &mut [u8],
-) -> usize
-    ensures { Piece 0 (report_text (load_answer answer) (model table.now 0)) out.old out.new result }
+    writer: &mut Writer,
+)
+    ensures { Wrote (report_text (load_answer answer) (model table.now 0)) writer.old writer.new }
 {
     match answer {
-        Ok(()) => write_table(table, out),
-        Err(fault) => put_refusal(out, 0, fault),
+        Ok(()) => write_table(table, writer),
+        Err(fault) => put_refusal(writer, fault),
     }
 }
 
@@ -64,7 +62,9 @@ pub fn report_length<B: Bank, S: Store>(
 ) -> usize
     ensures { result ≡ length (report_text (load_answer answer) (model table.now 0)) }
 {
-    write_report(answer, table, &mut [])
+    let mut writer = Writer::new(&mut []);
+    write_report(answer, table, &mut writer);
+    writer.place()
 }
 
 // Writes at the front of `out` what `plan` prints of the table, after a Load with this answer, and answers how long it is; bytes beyond it stay.
@@ -80,6 +80,6 @@ pub fn report<B: Bank, S: Store>(
     if out.len() < length {
         return Err(Refusal::ShortBuffer);
     }
-    write_report(answer, table, out);
+    write_report(answer, table, &mut Writer::new(out));
     Ok(length)
 }

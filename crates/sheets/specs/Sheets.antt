@@ -1,5 +1,5 @@
 -- A sheet, a table's voices and rows as bytes: for each voice hex 56 and its opening set in 8 bytes, low byte first; then the rows; then hex 5A.
-use Rattle.std.specs.Prelude.{ℕ, zero, suc, ◌+◌, ◌*◌, ◌/◌, ◌%◌, List, [], ◌∷◌, ◌++◌}
+use Rattle.std.specs.Prelude.{ℕ, zero, suc, ◌+◌, ◌*◌, ◌/◌, ◌%◌, List, [], ◌∷◌, ◌++◌, flat_map}
 use Rattle.rows.specs.Rows.{RowData}
 use Rattle.writing.specs.WrittenRows.{written_row}
 
@@ -19,12 +19,10 @@ voice_record s = 0x56 ∷ low_first 8 s
 
 -- the records of voices, and of rows
 abbrev pub voice_records : List ℕ → List ℕ
-voice_records [] = []
-voice_records (s ∷ voices) = voice_record s ++ voice_records voices
+voice_records voices = flat_map voice_record voices
 
 abbrev pub row_records : List RowData → List ℕ
-row_records [] = []
-row_records (r ∷ rows) = written_row r ++ row_records rows
+row_records rows = flat_map written_row rows
 
 abbrev pub records : List ℕ → List RowData → List ℕ
 records voices rows = voice_records voices ++ row_records rows

@@ -1,16 +1,38 @@
 // Why a sheet is declined.
-ghost use Rattle.std.specs.Prelude.{◌≡◌};
+ghost use Rattle.std.specs.Prelude.{◌≡◌, Some, decimal};
 ghost use Rattle.sheets.specs.declared.fault.Cause.TheVariants.{Declined};
-ghost use Rattle.sheets.specs.Causes.{cause_number, cause_layer, cause_offset};
+ghost use Rattle.sheets.specs.Causes.{cause_number, layer_name, cause_layer, cause_offset};
 
 use planner::refusal::Refusal;
+use std::fmt;
 
 // Who declines: the reader of the sheet, the reader of a row with its kind, or the table.
-#[derive(Clone, Copy)]
+#[derive(Clone, Copy, Debug, PartialEq, Eq)]
 pub enum Layer {
     Sheet,
     Row,
     Table,
+}
+
+impl Layer {
+    // The layer's name, as a report has it.
+    pub fn name(self) -> &'static str
+        ensures { result.now ≡ layer_name self }
+    {
+        match self {
+            Layer::Sheet => "sheet",
+            Layer::Row => "row",
+            Layer::Table => "table",
+        }
+    }
+}
+
+impl fmt::Display for Layer {
+    ghost output = { λ layer. Some (layer_name layer) };
+
+    fn fmt<W: fmt::Write>(&self, f: &mut fmt::Formatter<W>) -> fmt::Result {
+        f.write_str(self.name())
+    }
 }
 
 // What is wrong with a record.
@@ -47,13 +69,8 @@ impl Cause {
         ensures { result ≡ cause_layer self }
     {
         match self {
-            Cause::Declined(refusal) => {
-                if refusal.number() < 10 {
-                    Layer::Row
-                } else {
-                    Layer::Table
-                }
-            }
+            Cause::Declined(Refusal::Row(_)) => Layer::Row,
+            Cause::Declined(_) => Layer::Table,
             _ => Layer::Sheet,
         }
     }
@@ -66,6 +83,15 @@ impl Cause {
             Cause::Trailing => 1,
             _ => 0,
         }
+    }
+}
+
+// The refusal's number, in decimal.
+impl fmt::Display for Cause {
+    ghost output = { λ cause. Some (decimal (cause_number cause)) };
+
+    fn fmt<W: fmt::Write>(&self, f: &mut fmt::Formatter<W>) -> fmt::Result {
+        write!(f, "{}", self.number())
     }
 }
 

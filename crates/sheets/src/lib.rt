@@ -5,4 +5,5 @@ pub mod fault;
 pub mod laws;
 pub mod load;
 mod marks;
+mod record;
 pub mod save;

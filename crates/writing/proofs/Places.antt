@@ -1,7 +1,7 @@
 -- Pieces written one behind the other.
-use Rattle.std.proofs.Common.{◌≡◌, ℕ, zero, suc, ◌+◌, ◌-◌, ◌≤◌, List, [], ◌∷◌, ◌++◌, length, take, drop, sym, refl, ap, ◌∙◌, subst, ap₂, add-zero, zero-add, arith}
-use Rattle.std.proofs.lemmas.List.{append-nil, length-append, length-take-le, length-drop, take_all, take_at, take-append-le, drop_all, drop-drop}
-use Rattle.writing.specs.Written.{written, Piece}
+use Rattle.std.proofs.Common.{◌≡◌, ℕ, zero, suc, ◌+◌, ◌-◌, ◌≤◌, List, [], ◌∷◌, ◌++◌, length, take, drop, sym, refl, ap, ◌∙◌, ap₂, zero-add, arith}
+use Rattle.std.proofs.lemmas.List.{length-append, length-take, length-take-le, length-drop, take_all, take_at, take-append-le}
+use Rattle.writing.specs.Written.{written}
 
 -- ---- one byte of the buffer at a time
 
@@ -44,26 +44,6 @@ written_on (suc at) xs ys (b ∷ buffer) =
     place : suc at + length xs ≡ suc (at + length xs)
     place = omega arith
 
--- The same of pieces.
-pub piece_two : (at next last : ℕ) (xs ys before between after : List ℕ) → Piece at xs before between next → Piece next ys between after last
-    → Piece at (xs ++ ys) before after last
-piece_two at next last xs ys before between after p q = record {
-  place = omega (arith, p.place, q.place, length-append xs ys);
-  buffer = q.buffer ∙ ap₂ (λ (k : ℕ) (l : List ℕ). written k ys l) p.place p.buffer ∙ written_on at xs ys before;
-}
-
--- and where all but the pieces is known from them
-pub both : {at next last : ℕ} {xs ys before between after : List ℕ} → Piece at xs before between next → Piece next ys between after last
-    → Piece at (xs ++ ys) before after last
-both {at} {next} {last} {xs} {ys} {before} {between} {after} p q = piece_two at next last xs ys before between after p q
-
--- a piece of equal bytes
-pub same_piece : {at next : ℕ} {xs ys before after : List ℕ} → xs ≡ ys → Piece at xs before after next → Piece at ys before after next
-same_piece {at} {next} {xs} {ys} {before} {after} e p = let P : List ℕ → Type 0 = λ l. Piece at l before after next in subst P e p
-
-pub piece_none : (at : ℕ) (buffer : List ℕ) → Piece at [] buffer buffer at
-piece_none at buffer = record { place = sym (add-zero at); buffer = sym (written_none at buffer) }
-
 -- ---- a piece that fits, one that fits in part, and one that is past the buffer
 
 pub written_whole : (at : ℕ) (xs buffer : List ℕ) → at + length xs ≤ length buffer
@@ -101,20 +81,14 @@ written_past at xs buffer h =
     ap (λ (l : List ℕ). take (length buffer) (l ++ (xs ++ drop (at + length xs) buffer))) (take_all at buffer h)
     ∙ take_at buffer (xs ++ drop (at + length xs) buffer) (length buffer) refl
 
--- ---- what a copy into the part [at .. at + count] of the buffer leaves
-
-pub copied_whole : (at count k : ℕ) (xs part buffer : List ℕ) → k ≡ count → count ≡ length xs → at + length xs ≤ length buffer → part ≡ take count xs
-    → take at buffer ++ (part ++ drop k (drop at buffer)) ≡ written at xs buffer
-copied_whole at count k xs part buffer e d h p =
-    ap₂ (λ (l r : List ℕ). take at buffer ++ (l ++ r)) (p ∙ take_all count xs (omega arith)) (drop-drop k at buffer ∙ ap (λ (n : ℕ). drop n buffer) end)
-    ∙ sym (written_whole at xs buffer h)
-  where
-    end : at + k ≡ at + length xs
-    end = omega arith
-
-pub copied_part : (at count k : ℕ) (xs part buffer : List ℕ) → k ≡ count → count ≡ length buffer - at → at ≤ length buffer → count ≤ length xs → part ≡ take count xs
-    → take at buffer ++ (part ++ drop k (drop at buffer)) ≡ written at xs buffer
-copied_part at count k xs part buffer e d h l p =
-    ap₂ (λ (q r : List ℕ). take at buffer ++ (q ++ r)) (p ∙ ap (λ (n : ℕ). take n xs) d) (drop-drop k at buffer ∙ drop_all (at + k) buffer (omega arith))
-    ∙ ap (λ (q : List ℕ). take at buffer ++ q) (append-nil (take (length buffer - at) xs))
-    ∙ sym (written_part at xs buffer h (omega arith))
+-- a buffer stays as long as it was
+pub written_length : (at : ℕ) (xs buffer : List ℕ) → length (written at xs buffer) ≡ length buffer
+written_length at xs buffer =
+    omega (
+      arith,
+      length-take (length buffer) (take at buffer ++ (xs ++ drop (at + length xs) buffer)),
+      length-append (take at buffer) (xs ++ drop (at + length xs) buffer),
+      length-append xs (drop (at + length xs) buffer),
+      length-take at buffer,
+      length-drop (at + length xs) buffer,
+    )

@@ -1,14 +1,16 @@
 -- Rows written as bytes, with one byte for each voice, whatever the voice: the low one. Of a row that was read from bytes it is the voice.
-use Rattle.std.specs.Prelude.{ℕ, ◌/◌, ◌%◌, List, [], ◌∷◌, ◌++◌}
+use Rattle.std.specs.Prelude.{ℕ, ◌/◌, ◌%◌, List, [], ◌∷◌, ◌++◌, flat_map}
 use Rattle.std.specs.Int.{w16}
 use Rattle.std.proofs.Common.{of_z}
 use Rattle.rows.specs.declared.member.Member.{Member}
 use Rattle.rows.specs.Rows.{RowData}
 
--- the bytes of these members
+-- the bytes of a member, and of these members
+abbrev pub written_member : Member → List ℕ
+written_member x = 0x4D ∷ x.voice % 0x100 ∷ of_z w16 x.argument % 0x100 ∷ of_z w16 x.argument / 0x100 ∷ []
+
 abbrev pub written_members : List Member → List ℕ
-written_members [] = []
-written_members (x ∷ xs) = 0x4D ∷ x.voice % 0x100 ∷ of_z w16 x.argument % 0x100 ∷ of_z w16 x.argument / 0x100 ∷ written_members xs
+written_members xs = flat_map written_member xs
 
 -- the bytes of a row
 abbrev pub written_row : RowData → List ℕ

@@ -1,17 +1,15 @@
-use Rattle.std.proofs.Common.{◌≤◌, length, refl, ap, arith}
-use Rattle.planner.specs.Refusals.{refusal_number}
+use Rattle.std.proofs.Common.{◌≤◌, length, arith}
 use Rattle.planner.specs.Shown.{found_in}
-use Rattle.report.proofs.Finding.{found_few, read_passed, read_count, read_declined}
+use Rattle.report.proofs.Finding.{found_few, read_found}
 use Rattle.report.proofs.read_values.Goals as goal
 
-pub returns-in-Ok : goal.returns-in-Ok
-returns-in-Ok g c =
-    let d = c.in-Ok.ensures.does.does 0 in
-    record { count = read_count c.in-Ok.count c.read.new.out d refl; front = read_passed c.in-Ok.count c.read.new.out d refl }
+pub shared_ref_as_front-result : goal.shared_ref_as_front-result
+shared_ref_as_front-result g c =
+    let few : length (found_in c.args.table.now) ≤ length c.args.values.now = omega (arith, found_few c.args.table.now, c.fits-values) in
+    let found = read_found c.read.result c.unwrap_or-count.result c.read.new.out (c.read.ensures.does.does 0) c.unwrap_or-count.ensures few in
+    omega (arith, found.0, found_few c.args.table.now)
 
-pub returns-in-Err : goal.returns-in-Err
-returns-in-Err g c =
-    let d = c.in-Err.ensures.does.does 0 in
-    let few : length (found_in c.args.table.now) ≤ length c.args.values.now = omega (arith, found_few c.args.table.now, c.requires) in
-    let none = read_declined (refusal_number c.in-Err.field-0) d refl few in
-    record { count = ap length none; front = none }
+pub returns : goal.returns
+returns g c =
+    let few : length (found_in c.args.table.now) ≤ length c.args.values.now = omega (arith, found_few c.args.table.now, c.fits-values) in
+    (read_found c.read.result c.unwrap_or-count.result c.read.new.out (c.read.ensures.does.does 0) c.unwrap_or-count.ensures few).1

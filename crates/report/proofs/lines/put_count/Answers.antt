@@ -1,19 +1,5 @@
-use Rattle.std.proofs.Common.{arith}
-use Rattle.writing.proofs.Places.{both}
-use Rattle.report.proofs.Lengths.{count_line_length}
+use Rattle.writing.proofs.Texts.{wrote_two}
 use Rattle.report.proofs.lines.put_count.Goals as goal
 
-pub put_text-at-requires : goal.put_text-at-requires
-put_text-at-requires c = omega (arith, c.requires, count_line_length c.args.name.now c.args.count)
-
-pub put_text-at-requires-2 : goal.put_text-at-requires-2
-put_text-at-requires-2 c = omega (arith, c.requires, count_line_length c.args.name.now c.args.count)
-
-pub put_number-at-requires : goal.put_number-at-requires
-put_number-at-requires c = omega (arith, c.requires, count_line_length c.args.name.now c.args.count)
-
-pub put_end-requires : goal.put_end-requires
-put_end-requires c = omega (arith, c.requires, count_line_length c.args.name.now c.args.count)
-
 pub returns : goal.returns
-returns c = both c.put_text-at.ensures (both c.put_text-at-2.ensures (both c.put_number-at.ensures c.put_end.ensures))
+returns c = wrote_two c.put.ensures (wrote_two c.put-2.ensures (wrote_two c.put_number.ensures c.put_end.ensures))
