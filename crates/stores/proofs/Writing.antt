@@ -1,6 +1,6 @@
 -- Words written one after the other over a list.
-use Rattle.std.proofs.Common.{◌≡◌, ℕ, ◌+◌, ◌-◌, ◌*◌, ◌<◌, ◌≤◌, List, [], ◌∷◌, ◌++◌, map, length, get_or, take, drop, set, sym, refl, ap, ◌∙◌, ap₂, add-zero, arith}
-use Rattle.std.proofs.lemmas.List.{drop_more, drop_all, length-drop, set_at, append_assoc, length_push, length-append, length-map, length-take-le, map_more, take_at, drop_at, drop-drop, take_more, take_more_set, take_all, drop-set-lt, append-nil, take-append-drop}
+use Rattle.std.proofs.Common.{◌≡◌, ℕ, ◌+◌, ◌-◌, ◌*◌, ◌<◌, ◌≤◌, List, [], ◌∷◌, ◌++◌, map, length, get_or, take, drop, set, sym, refl, ap, ◌∙◌, ap₂, arith}
+use Rattle.std.proofs.lemmas.List.{drop_more, drop_all, length-drop, set_at, append_assoc, length-append, length-map, length-take-le, map_more, take_at, drop_at, drop-drop, take_all, append-nil}
 use borrow.Rule.Slice.PartMut.{put_mid}
 use Rattle.rows.specs.declared.row.Row.{Row}
 use Rattle.rows.specs.Rows.{RowData, Meaning}
