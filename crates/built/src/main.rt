@@ -50,10 +50,7 @@ fn main(rt: HostRuntime) -> io::Result<()> {
     let mut memory = [0u8; 16];
     match build_rows(&mut table, &mut memory) {
         Ok(()) => println!(rt; "one row posted, one scrapped")?,
-        Err(refusal) => {
-            let number = refusal.number();
-            println!(rt; "refused {number}")?;
-        }
+        Err(refusal) => println!(rt; "refused {refusal}")?,
     }
     print_placing(&rt, &mut table)
 }

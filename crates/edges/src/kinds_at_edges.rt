@@ -24,15 +24,12 @@ fn row(heap: Global, letter: u8, body: &[u8], members: &[(u16, i16)]) -> Result<
     Ok(row)
 }
 
-// 0 for accepted, else the refusal's number.
-fn number(verdict: Result<(), Fault>) -> u8 {
-    match verdict {
-        Ok(()) => 0,
-        Err(fault) => fault.number(),
-    }
+// The refusal's number, of a row that is declined.
+fn number(verdict: Result<(), Fault>) -> Option<u8> {
+    verdict.err().map(|fault| fault.number())
 }
 
-fn linear_number(heap: Global, bound: i32, coefficient: i16) -> Result<u8, AllocError> {
+fn linear_number(heap: Global, bound: i32, coefficient: i16) -> Result<Option<u8>, AllocError> {
     let [a, b, c, d] = bound.to_le_bytes();
     let row = row(heap, b'L', &[1, a, b, c, d], &[(0, coefficient)])?;
     Ok(number(Linear::accept(&row, 1)))
@@ -41,17 +38,17 @@ fn linear_number(heap: Global, bound: i32, coefficient: i16) -> Result<u8, Alloc
 #[test]
 fn linear_ranges(rt: HostRuntime) -> Result<(), Fail> {
     let heap = rt.alloc();
-    assert_eq!(rt; linear_number(heap, 0, 1_000)?, 0);
-    assert_eq!(rt; linear_number(heap, 0, 1_001)?, 9);
-    assert_eq!(rt; linear_number(heap, 0, -1_001)?, 9);
-    assert_eq!(rt; linear_number(heap, 3_000_000, 1)?, 0);
-    assert_eq!(rt; linear_number(heap, 3_000_001, 1)?, 9);
-    assert_eq!(rt; linear_number(heap, -3_000_000, 1)?, 0);
-    assert_eq!(rt; linear_number(heap, -3_000_001, 1)?, 9);
+    assert_eq!(rt; linear_number(heap, 0, 1_000)?, None);
+    assert_eq!(rt; linear_number(heap, 0, 1_001)?, Some(9));
+    assert_eq!(rt; linear_number(heap, 0, -1_001)?, Some(9));
+    assert_eq!(rt; linear_number(heap, 3_000_000, 1)?, None);
+    assert_eq!(rt; linear_number(heap, 3_000_001, 1)?, Some(9));
+    assert_eq!(rt; linear_number(heap, -3_000_000, 1)?, None);
+    assert_eq!(rt; linear_number(heap, -3_000_001, 1)?, Some(9));
     Ok(())
 }
 
-fn literal_number(heap: Global, argument: i16) -> Result<u8, AllocError> {
+fn literal_number(heap: Global, argument: i16) -> Result<Option<u8>, AllocError> {
     let row = row(heap, b'C', &[2], &[(0, 5), (0, argument)])?;
     Ok(number(Clause::accept(&row, 1)))
 }
@@ -59,11 +56,11 @@ fn literal_number(heap: Global, argument: i16) -> Result<u8, AllocError> {
 #[test]
 fn literals(rt: HostRuntime) -> Result<(), Fail> {
     let heap = rt.alloc();
-    assert_eq!(rt; literal_number(heap, 63)?, 0);
-    assert_eq!(rt; literal_number(heap, 64)?, 0);
-    assert_eq!(rt; literal_number(heap, 127)?, 0);
-    assert_eq!(rt; literal_number(heap, 128)?, 9);
-    assert_eq!(rt; literal_number(heap, -1)?, 9);
+    assert_eq!(rt; literal_number(heap, 63)?, None);
+    assert_eq!(rt; literal_number(heap, 64)?, None);
+    assert_eq!(rt; literal_number(heap, 127)?, None);
+    assert_eq!(rt; literal_number(heap, 128)?, Some(9));
+    assert_eq!(rt; literal_number(heap, -1)?, Some(9));
     Ok(())
 }
 
@@ -71,8 +68,8 @@ fn literals(rt: HostRuntime) -> Result<(), Fail> {
 fn repeated_voices(rt: HostRuntime) -> Result<(), Fail> {
     let heap = rt.alloc();
     let twice = row(heap, b'A', &[2], &[(0, 0), (0, 0)])?;
-    assert_eq!(rt; number(AllDifferent::accept(&twice, 1)), 9);
-    assert_eq!(rt; number(AllDifferent::accept(&twice, 0)), 8);
+    assert_eq!(rt; number(AllDifferent::accept(&twice, 1)), Some(9));
+    assert_eq!(rt; number(AllDifferent::accept(&twice, 0)), Some(8));
     // voice 0 twice, 1 and -2, bound -4: 0 and 1 leave by the first pair, and 3 by no member
     let sums = row(
         heap,
@@ -96,14 +93,14 @@ fn entries(rt: HostRuntime) -> Result<(), Fail> {
     let heap = rt.alloc();
     // index and result are one voice: 0 and 2 are the places that hold their own number
     let own = row(heap, b'E', &[3, 0, 0], &[(0, 0), (0, 2), (0, 2)])?;
-    assert_eq!(rt; number(Element::accept(&own, 1)), 0);
+    assert_eq!(rt; number(Element::accept(&own, 1)), None);
     let mut sets = [0b1111u64];
     assert!(rt; Element::turn(&own, &mut sets));
     assert_eq!(rt; sets, [0b101]);
     let named = row(heap, b'E', &[1, 0, 0], &[(1, 4)])?;
-    assert_eq!(rt; number(Element::accept(&named, 2)), 9);
-    assert_eq!(rt; number(Element::accept(&named, 0)), 8);
+    assert_eq!(rt; number(Element::accept(&named, 2)), Some(9));
+    assert_eq!(rt; number(Element::accept(&named, 0)), Some(8));
     let large = row(heap, b'E', &[1, 0, 0], &[(0, 64)])?;
-    assert_eq!(rt; number(Element::accept(&large, 1)), 9);
+    assert_eq!(rt; number(Element::accept(&large, 1)), Some(9));
     Ok(())
 }

@@ -1,6 +1,7 @@
 // Small searches through the table's calls: a row of the kind A over some voices, solved with each budget in turn.
 use all_different::AllDifferent;
 use engine::outcome::Outcome;
+use planner::refusal::Refusal;
 use planner::table::Table;
 use rows::bank::Alone;
 use sets::ValueSet;
@@ -16,42 +17,37 @@ static FIVE: [u8; 22] = [
     b'A', 5, b'M', 0, 0, 0, b'M', 1, 0, 0, b'M', 2, 0, 0, b'M', 3, 0, 0, b'M', 4, 0, 0,
 ];
 
-// The last answer of Solve in a letter (s, f, n, or r for refused), and the counts.
+// The last answer of Solve, with each budget in turn, and the counts.
 fn solved<S: Store + Drop>(
     rt: &HostRuntime,
     store: S,
     opening: &[ValueSet],
     row: &[u8],
     budgets: &[u64],
-) -> Result<(u8, u64, u64), Fail> {
+) -> Result<(Result<Outcome, Refusal>, u64, u64), Fail> {
     let mut table: Table<Alone<AllDifferent>, S> = Table::make(rt.alloc(), store)?;
     for set in opening {
         let _ = table.declare(*set);
     }
     let _ = table.post(row);
-    let mut letter = b'r';
+    let mut answer = Ok(Outcome::Stopped);
     for budget in budgets {
-        letter = match table.solve(*budget) {
-            Ok(Outcome::Stopped) => b's',
-            Ok(Outcome::Found) => b'f',
-            Ok(Outcome::None) => b'n',
-            Err(_) => b'r',
-        };
+        answer = table.solve(*budget);
     }
-    Ok((letter, table.opened(), table.exhausted()))
+    Ok((answer, table.opened(), table.exhausted()))
 }
 
 #[test]
 fn three_voices(rt: HostRuntime) -> Result<(), Fail> {
-    assert_eq!(rt; solved(&rt, Bare, &[6, 6, 6], &THREE, &[9])?, (b'n', 3, 1));
-    assert_eq!(rt; solved(&rt, Bare, &[6, 6, 6], &THREE, &[2])?, (b's', 2, 0));
+    assert_eq!(rt; solved(&rt, Bare, &[6, 6, 6], &THREE, &[9])?, (Ok(Outcome::None), 3, 1));
+    assert_eq!(rt; solved(&rt, Bare, &[6, 6, 6], &THREE, &[2])?, (Ok(Outcome::Stopped), 2, 0));
     assert_eq!(rt;
         solved(&rt, Bare, &[6, 6, 6], &THREE, &[2, 1])?,
-        (b'n', 3, 1)
+        (Ok(Outcome::None), 3, 1)
     );
     assert_eq!(rt;
         solved(&rt, Bare, &[6, 6, 6], &THREE, &[9, 0])?,
-        (b'r', 3, 1)
+        (Err(Refusal::BudgetRange), 3, 1)
     );
     Ok(())
 }
@@ -62,14 +58,14 @@ fn five_voices(rt: HostRuntime) -> Result<(), Fail> {
     let mut words = [0u64; 64];
     assert_eq!(rt;
         solved(&rt, Shelf::new(&mut words), &opening, &FIVE, &[9])?,
-        (b'n', 5, 2)
+        (Ok(Outcome::None), 5, 2)
     );
-    assert_eq!(rt; solved(&rt, Bare, &opening, &FIVE, &[9])?, (b'n', 7, 3));
+    assert_eq!(rt; solved(&rt, Bare, &opening, &FIVE, &[9])?, (Ok(Outcome::None), 7, 3));
     Ok(())
 }
 
 #[test]
 fn no_voices(rt: HostRuntime) -> Result<(), Fail> {
-    assert_eq!(rt; solved(&rt, Bare, &[], &THREE, &[1])?, (b'f', 1, 0));
+    assert_eq!(rt; solved(&rt, Bare, &[], &THREE, &[1])?, (Ok(Outcome::Found), 1, 0));
     Ok(())
 }

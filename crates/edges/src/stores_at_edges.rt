@@ -4,30 +4,23 @@ use stores::bare::Bare;
 use stores::shelf::Shelf;
 use stores::store::{Store, Stored};
 
-fn is_kept(answer: Stored) -> bool {
-    match answer {
-        Stored::Kept => true,
-        Stored::Lost => false,
-    }
-}
-
 // Keys of one word, equal prefixes, other lengths, a held key kept again without moving.
 #[test]
 fn small_keys(rt: HostRuntime) {
     let mut words = [0u64; 16];
     let mut shelf = Shelf::new(&mut words);
-    assert!(rt; is_kept(shelf.keep(&[7])));
-    assert!(rt; is_kept(shelf.keep(&[7, 7])));
-    assert!(rt; is_kept(shelf.keep(&[7, 8])));
+    assert!(rt; shelf.keep(&[7]) == Stored::Kept);
+    assert!(rt; shelf.keep(&[7, 7]) == Stored::Kept);
+    assert!(rt; shelf.keep(&[7, 8]) == Stored::Kept);
     assert!(rt; shelf.find(&[7]) && shelf.find(&[7, 7]) && shelf.find(&[7, 8]));
     assert!(rt;
         !shelf.find(&[8]) && !shelf.find(&[7, 9]) && !shelf.find(&[7, 7, 7]) && !shelf.find(&[])
     );
-    assert!(rt; is_kept(shelf.keep(&[7, 7])));
+    assert!(rt; shelf.keep(&[7, 7]) == Stored::Kept);
     // 8 of 16 words are used: a key of 7 fits exactly
-    assert!(rt; is_kept(shelf.keep(&[1, 2, 3, 4, 5, 6, 7])));
-    assert!(rt; !is_kept(shelf.keep(&[9])));
-    assert!(rt; is_kept(shelf.keep(&[7])));
+    assert!(rt; shelf.keep(&[1, 2, 3, 4, 5, 6, 7]) == Stored::Kept);
+    assert!(rt; shelf.keep(&[9]) == Stored::Lost);
+    assert!(rt; shelf.keep(&[7]) == Stored::Kept);
     shelf.clear();
     assert!(rt; !shelf.find(&[7]));
 }
@@ -37,13 +30,13 @@ fn small_keys(rt: HostRuntime) {
 fn fits(rt: HostRuntime) {
     let mut none = [0u64; 0];
     let mut shelf = Shelf::new(&mut none);
-    assert!(rt; !is_kept(shelf.keep(&[1])));
+    assert!(rt; shelf.keep(&[1]) == Stored::Lost);
     let mut one = [0u64; 1];
     let mut shelf = Shelf::new(&mut one);
-    assert!(rt; !is_kept(shelf.keep(&[1])) && !is_kept(shelf.keep(&[])));
+    assert!(rt; shelf.keep(&[1]) == Stored::Lost && shelf.keep(&[]) == Stored::Lost);
     let mut two = [0u64; 2];
     let mut shelf = Shelf::new(&mut two);
-    assert!(rt; !is_kept(shelf.keep(&[1, 2])) && is_kept(shelf.keep(&[1])));
+    assert!(rt; shelf.keep(&[1, 2]) == Stored::Lost && shelf.keep(&[1]) == Stored::Kept);
 }
 
 // A key of 320 words, and lent words past the first 65,536.
@@ -52,16 +45,16 @@ fn large(rt: HostRuntime) -> Result<(), Fail> {
     let key = [3u64; 320];
     let mut words = vec![in rt.alloc(); 0u64; 65_537]?;
     let mut shelf = Shelf::new(&mut words);
-    assert!(rt; is_kept(shelf.keep(&key)) && shelf.find(&key));
+    assert!(rt; shelf.keep(&key) == Stored::Kept && shelf.find(&key));
     // 65,536 - 321 words are left of those that a shelf uses
     let long = vec![in rt.alloc(); 5u64; 65_215]?;
-    assert!(rt; !is_kept(shelf.keep(&long)));
-    assert!(rt; is_kept(shelf.keep(&long[0..65_214])));
+    assert!(rt; shelf.keep(&long) == Stored::Lost);
+    assert!(rt; shelf.keep(&long[0..65_214]) == Stored::Kept);
     Ok(())
 }
 
 #[test]
 fn bare(rt: HostRuntime) {
     let mut store = Bare;
-    assert!(rt; !is_kept(store.keep(&[1])) && !store.find(&[1]));
+    assert!(rt; store.keep(&[1]) == Stored::Lost && !store.find(&[1]));
 }

@@ -17,7 +17,7 @@ fn bytes_text(heap: Global, bytes: &[u8]) -> Result<String, AllocError> {
 pub(crate) fn print_answer(rt: &HostRuntime, answer: &Answer) -> io::Result<()> {
     match answer {
         Answer::Done => println!(rt; "done"),
-        Answer::Refused(number) => println!(rt; "refused {number}"),
+        Answer::Refused(refusal) => println!(rt; "refused {refusal}"),
         Answer::Found(values) => {
             let text = bytes_text(rt.alloc(), values)?;
             println!(rt; "found{text}")

@@ -17,10 +17,7 @@ fn read_rows(rt: &HostRuntime, texts: &[Vec<u8>], voices: usize) -> io::Result<V
         let mut row = Row::new(rt.alloc(), 0)?;
         match accept_bytes::<FourKinds>(bytes, voices, &mut row) {
             Ok(()) => rows.push(row)?,
-            Err(fault) => {
-                let number = fault.number();
-                println!(rt; "row {i} is declined with {number}")?;
-            }
+            Err(fault) => println!(rt; "row {i} is declined with {fault}")?,
         }
     }
     Ok(rows)
@@ -28,12 +25,10 @@ fn read_rows(rt: &HostRuntime, texts: &[Vec<u8>], voices: usize) -> io::Result<V
 
 fn print_voices(rt: &HostRuntime, before: &[ValueSet], after: &[ValueSet]) -> io::Result<()> {
     println!(rt; "voices (lanes and banks before -> after)")?;
-    for (i, name) in title::VOICES.iter().enumerate() {
-        if i < before.len() && i < after.len() {
-            let old = show::set_text(rt.alloc(), before[i])?;
-            let new = show::set_text(rt.alloc(), after[i])?;
-            println!(rt; "  {name}: {old} -> {new}")?;
-        }
+    for (name, (old, new)) in title::VOICES.iter().zip(before.iter().zip(after)) {
+        let old = show::set_text(rt.alloc(), *old)?;
+        let new = show::set_text(rt.alloc(), *new)?;
+        println!(rt; "  {name}: {old} -> {new}")?;
     }
     Ok(())
 }

@@ -1,19 +1,16 @@
 // Sets and rows in words.
-use sets::{ValueSet, take_least};
+use sets::{ValueSet, contains};
 use std::alloc::{AllocError, Global};
 
 // The values of a set in braces, ascending.
 pub(crate) fn set_text(heap: Global, set: ValueSet) -> Result<String, AllocError> {
     let mut text = String::from_str(heap, "{")?;
-    let mut left = set;
-    for i in 0..set.count_ones() {
-        if let Some(value) = take_least(&mut left) {
-            let word = format!(in heap; "{value}")?;
-            if i > 0 {
-                text.push_str(" ")?;
-            }
-            text.push_str(&word)?;
+    for value in (0..64u32).filter(|v| contains(set, *v)) {
+        if text.len() > 1 {
+            text.push_str(" ")?;
         }
+        let word = format!(in heap; "{value}")?;
+        text.push_str(&word)?;
     }
     text.push_str("}")?;
     Ok(text)

@@ -2,7 +2,7 @@
 use crate::title;
 use engine::outcome::Outcome;
 use kinds::FourKinds;
-use planner::table::Table;
+use planner::table::{MOST_VOICES, Table};
 use std::io;
 use stores::store::Store;
 
@@ -10,15 +10,6 @@ use stores::store::Store;
 const BUDGET: u64 = 4;
 
 const MOST_CALLS: u32 = 1_000;
-
-// What `solve` answered, in a word.
-fn outcome_name(outcome: Outcome) -> &'static str {
-    match outcome {
-        Outcome::Stopped => "stopped",
-        Outcome::Found => "found",
-        Outcome::None => "none",
-    }
-}
 
 // Declares the title's voices and posts its rows; says what is declined.
 fn fill<S: Store>(
@@ -28,21 +19,19 @@ fn fill<S: Store>(
 ) -> io::Result<()> {
     for (i, set) in title::OPENING.iter().enumerate() {
         if let Err(refusal) = table.declare(*set) {
-            let number = refusal.number();
-            println!(rt; "voice {i} is declined with {number}")?;
+            println!(rt; "voice {i} is declined with {refusal}")?;
         }
     }
     for (i, bytes) in texts.iter().enumerate() {
         if let Err(refusal) = table.post(bytes) {
-            let number = refusal.number();
-            println!(rt; "row {i} is declined with {number}")?;
+            println!(rt; "row {i} is declined with {refusal}")?;
         }
     }
     Ok(())
 }
 
 fn print_placing<S: Store>(rt: &HostRuntime, table: &Table<FourKinds, S>) -> io::Result<()> {
-    let mut values = [0u8; 80];
+    let mut values = [0u8; MOST_VOICES];
     if let Ok(count) = table.read(&mut values) {
         println!(rt; "placing")?;
         for (name, value) in title::VOICES.iter().zip(values.iter()).take(count) {
@@ -65,11 +54,10 @@ pub(crate) fn solve_title<S: Store + Drop>(
         let Ok(outcome) = table.solve(BUDGET) else {
             return Ok(());
         };
-        let word = outcome_name(outcome);
         let opened = table.opened();
         let exhausted = table.exhausted();
-        println!(rt; "  {word}: opened {opened}, exhausted {exhausted}")?;
-        if !matches!(outcome, Outcome::Stopped) {
+        println!(rt; "  {outcome}: opened {opened}, exhausted {exhausted}")?;
+        if outcome != Outcome::Stopped {
             break;
         }
     }

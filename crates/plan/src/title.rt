@@ -1,4 +1,5 @@
 // The built-in title: ten voices and eight rows.
+use rows::member::MEMBER_MARK;
 use sets::ValueSet;
 use std::alloc::{AllocError, Global};
 
@@ -39,17 +40,11 @@ fn row(
     body: &[u8],
     members: &[(u8, i16)],
 ) -> Result<Vec<u8>, AllocError> {
-    let mut bytes = Vec::new(heap);
-    bytes.push(letter)?;
-    for b in body {
-        bytes.push(*b)?;
-    }
+    let mut bytes = vec![in heap; letter]?;
+    bytes.extend_from_slice(body)?;
     for (voice, argument) in members {
         let [low, high] = argument.to_le_bytes();
-        bytes.push(b'M')?;
-        bytes.push(*voice)?;
-        bytes.push(low)?;
-        bytes.push(high)?;
+        bytes.extend_from_slice(&[MEMBER_MARK, *voice, low, high])?;
     }
     Ok(bytes)
 }
@@ -119,15 +114,15 @@ fn loudness_at_least(heap: Global) -> Result<Vec<u8>, AllocError> {
 }
 
 // The title's rows as bytes, in the order in which they take turns.
-pub(crate) fn rows(heap: Global) -> Result<Vec<Vec<u8>>, AllocError> {
-    let mut rows = Vec::new(heap);
-    rows.push(own_lanes(heap)?)?;
-    rows.push(load_limit(heap)?)?;
-    rows.push(exclusion(heap)?)?;
-    rows.push(wiring(heap, 6, 8)?)?;
-    rows.push(wiring(heap, 7, 9)?)?;
-    rows.push(apart(heap)?)?;
-    rows.push(loudness_at_most(heap)?)?;
-    rows.push(loudness_at_least(heap)?)?;
-    Ok(rows)
+pub(crate) fn rows(heap: Global) -> Result<[Vec<u8>; 8], AllocError> {
+    Ok([
+        own_lanes(heap)?,
+        load_limit(heap)?,
+        exclusion(heap)?,
+        wiring(heap, 6, 8)?,
+        wiring(heap, 7, 9)?,
+        apart(heap)?,
+        loudness_at_most(heap)?,
+        loudness_at_least(heap)?,
+    ])
 }
