@@ -7,36 +7,26 @@ ghost use Rattle.cases.specs.Searches.{SearchesStand};
 ghost use Rattle.cases.specs.Refusals.{RefusalsStand, LimitsReached};
 
 // The two stores behave as the cases take it.
-pub fn stores_behave() -> u8
+pub fn stores_behave()
     ensures { StoresBehave }
-{
-    0
-}
+{}
 
 // Over such a store the calls decide the answers and the table.
-pub fn calls_decide() -> u8
+pub fn calls_decide()
     ensures { CallsDecide }
-{
-    0
-}
+{}
 
 // The searches of the table of cases lead to what is written there.
-pub fn searches_stand() -> u8
+pub fn searches_stand()
     ensures { SearchesStand }
-{
-    0
-}
+{}
 
 // The calls of the table of cases pass, or are declined under the number written there.
-pub fn refusals_stand() -> u8
+pub fn refusals_stand()
     ensures { RefusalsStand }
-{
-    0
-}
+{}
 
 // The limits of a table can be reached, and not passed.
-pub fn limits_reached() -> u8
+pub fn limits_reached()
     ensures { LimitsReached }
-{
-    0
-}
+{}
