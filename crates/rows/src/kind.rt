@@ -17,15 +17,19 @@ pub trait Kind {
     // The letter that a row of this kind begins with.
     const LETTER: u8;
 
+    // the constant, as clauses speak of it
     ghost LETTER: { ℕ };
 
+    // it is the letter that the meaning names
     ghost own_letter: { LETTER ≡ meaning.letter };
 
     // How many bytes the body of such a row has.
     const BODY_LENGTH: usize;
 
+    // the constant, as clauses speak of it
     ghost BODY_LENGTH: { ℕ };
 
+    // it is the length that the meaning names
     ghost own_length: { BODY_LENGTH ≡ meaning.body_length };
 
     // Whether a row is one of this kind, in a table of so many voices.
