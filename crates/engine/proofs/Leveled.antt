@@ -1,34 +1,79 @@
--- Levels as they are held: what a write leaves, and what opening a node comes to.
-use Rattle.std.proofs.Common.{◌≡◌, ℕ, zero, suc, ◌+◌, ◌-◌, ◌*◌, ◌<◌, ◌≤◌, ◌≢◌, List, [], ◌∷◌, length, get_or, take, drop, set, sym, refl, ap, ◌∙◌, subst, ap₂, ⊎_elim, suc-mul, arith}
-use Rattle.std.proofs.lemmas.Nat.{mul-le}
-use Rattle.std.proofs.lemmas.List.{take-take, drop-take, get_or-set_same, get_or-set_other}
-use Rattle.std.proofs.lemmas.Bool.{cases_lt}
-use Rattle.rows.specs.Rows.{RowData, Meaning}
-use Rattle.sets.specs.Placings.{values}
-use Rattle.stores.specs.Stores.{View}
-use Rattle.search.specs.Search.{Level, Node, Opens, node, below}
-use Rattle.search.specs.Propagation.{propagated}
-use Rattle.search.specs.Search.Node.{dead, solution, hit, branch}
+-- A stack of levels as it is held: what it is by its newest record, and what each step on it leaves.
+use Rattle.std.proofs.Common.{◌≡◌, ℕ, zero, suc, ◌+◌, ◌-◌, ◌*◌, ◌<◌, ◌≤◌, ◌≢◌, false, eqb, List, [], ◌∷◌, ◌++◌, length, get_or, take, drop, set, sym, refl, ap, ◌∙◌, subst, ap₂, ⊎_elim, suc-mul, arith, length-drop, length-set}
+use Rattle.std.proofs.lemmas.List.{take-take, drop-take, drop_at, take_at, take_all, length-take-le, get_or-set_same, get_or-set_other, get_or-take, get_or_append_left, get_or_push, length_push}
+use Rattle.std.proofs.lemmas.Bool.{cases_lt, cases_eq, ne_eqb, eqb-false}
+use Rattle.sets.specs.Sets.{least, only}
+use Rattle.search.specs.Search.{Level, below, child}
 use Rattle.engine.specs.declared.level.LevelRecord.{LevelRecord}
-use Rattle.engine.specs.declared.level.End.{End}
-use Rattle.engine.specs.declared.level.End.TheVariants.{Found, Exhausted}
-use Rattle.engine.specs.Levels.{no_record, level_at, levels_at, stop, Backed, Lasting, Voiced, below_at}
-use Rattle.engine.specs.Places.{place_of, Opened}
+use Rattle.engine.specs.Levels.{no_record, level_at, first_levels, levels_at, is_none, is_spent, newest_sets, without_newest, next_sets, tried, Voiced}
 
-pub below_is : (n : ℕ) (trail : List ℕ) (levels : List LevelRecord) (d : ℕ) → below_at levels d ≡ below (levels_at n trail levels d)
-below_is n trail levels zero = refl
-below_is n trail levels (suc d) = refl
+-- ---- a stack with no level, and one with some
 
-place_spent : (w : List ℕ) (ls : List Level) → stop ls ≡ place_of Exhausted w ls
-place_spent w [] = refl
-place_spent w (l ∷ ls) = refl
+first_none : (n : ℕ) (trail : List ℕ) (records : List LevelRecord) (d : ℕ) → is_none (first_levels n trail records d) ≡ eqb d 0
+first_none n trail records zero = refl
+first_none n trail records (suc d) = sym (ne_eqb (suc d) 0 (λ e. omega arith))
 
--- room
-pub room_above : (d n len : ℕ) → d ≤ n → n * n ≤ len → d * n ≤ len
-room_above d n len h k = omega (arith, mul-le d n n n h (omega arith))
+pub none_is : (n : ℕ) (trail : List ℕ) (records : List LevelRecord) → is_none (levels_at n trail records) ≡ eqb (length records) 0
+none_is n trail records = first_none n trail records (length records)
 
-pub room_for : (d n len : ℕ) → d < n → n * n ≤ len → d * n + n ≤ len
-room_for d n len h k = omega (arith, mul-le (suc d) n n n (omega arith) (omega arith), suc-mul d n)
+pub levels_none : (n : ℕ) (trail : List ℕ) (records : List LevelRecord) → length records ≡ 0 → levels_at n trail records ≡ []
+levels_none n trail records e = ap (first_levels n trail records) e
+
+pub some_from : (n : ℕ) (trail : List ℕ) (records : List LevelRecord) → is_none (levels_at n trail records) ≡ false → 0 < length records
+some_from n trail records e = omega (arith, eqb-false (length records) 0 (sym (none_is n trail records) ∙ e))
+
+-- the levels by the newest record
+pub levels_some : (n : ℕ) (trail : List ℕ) (records : List LevelRecord) → 0 < length records
+    → levels_at n trail records ≡ level_at n trail records (length records - 1) ∷ first_levels n trail records (length records - 1)
+levels_some n trail records h = let p : length records ≡ suc (length records - 1) = omega arith in ap (first_levels n trail records) p
+
+pub below_some : (n : ℕ) (trail : List ℕ) (records : List LevelRecord) → 0 < length records → below (levels_at n trail records) ≡ (get_or records (length records - 1) no_record).voice + 1
+below_some n trail records h = ap below (levels_some n trail records h) ∙ omega arith
+
+pub below_none : (n : ℕ) (trail : List ℕ) (records : List LevelRecord) → length records ≡ 0 → below (levels_at n trail records) ≡ 0
+below_none n trail records e = ap below (levels_none n trail records e)
+
+pub spent_some : (n : ℕ) (trail : List ℕ) (records : List LevelRecord) → 0 < length records → is_spent (levels_at n trail records) ≡ eqb (get_or records (length records - 1) no_record).left 0
+spent_some n trail records h = ap is_spent (levels_some n trail records h)
+
+pub spent_none : (n : ℕ) (trail : List ℕ) (records : List LevelRecord) → length records ≡ 0 → is_spent (levels_at n trail records) ≡ false
+spent_none n trail records e = ap is_spent (levels_none n trail records e)
+
+-- there are no more levels than voices below the first that they leave open
+pub deep_below : (n : ℕ) (trail : List ℕ) (records : List LevelRecord) → Voiced n records → length records ≤ below (levels_at n trail records)
+deep_below n trail records v = ⊎_elim
+    (λ (h : 0 < length records). omega (arith, below_some n trail records h, (v (length records - 1) (omega arith)).0))
+    (λ (h : length records ≤ 0). omega arith)
+    (cases_lt 0 (length records))
+
+-- ---- where the sets of a level lie
+
+pub place_of_newest : (n d len : ℕ) → len ≡ d * n → 0 < d → (d - 1) * n + n ≡ len
+place_of_newest n d len e h =
+    let p : d ≡ suc (d - 1) = omega arith in
+    omega (arith, suc-mul (d - 1) n, ap (λ x. x * n) p)
+
+pub newest_sets_are : (n : ℕ) (trail : List ℕ) (records : List LevelRecord) → length trail ≡ length records * n → 0 < length records
+    → drop (length trail - n) trail ≡ newest_sets (levels_at n trail records)
+newest_sets_are n trail records e h =
+    let k : length trail - n ≡ (length records - 1) * n = omega (arith, place_of_newest n (length records) (length trail) e h) in
+    let w : length (drop ((length records - 1) * n) trail) ≤ n = omega (arith, place_of_newest n (length records) (length trail) e h, length-drop ((length records - 1) * n) trail) in
+    ap (λ i. drop i trail) k ∙ sym (take_all n (drop ((length records - 1) * n) trail) w) ∙ sym (ap newest_sets (levels_some n trail records h))
+
+-- the same as the code reads them, from a list xs of l numbers
+pub newest_read : (n : ℕ) (trail : List ℕ) (records : List LevelRecord) (xs : List ℕ) (l : ℕ) → xs ≡ trail → l ≡ length trail → length trail ≡ length records * n → 0 < length records
+    → take (length xs - (l - n)) (drop (l - n) xs) ≡ newest_sets (levels_at n trail records)
+newest_read n trail records xs l e f w h =
+    let k : length (drop (l - n) xs) ≤ length xs - (l - n) = omega (arith, length-drop (l - n) xs) in
+    take_all (length xs - (l - n)) (drop (l - n) xs) k ∙ ap₂ (λ (i : ℕ) (t : List ℕ). drop (i - n) t) f e ∙ newest_sets_are n trail records w h
+
+pub newest_length : (n : ℕ) (trail : List ℕ) (records : List LevelRecord) → length trail ≡ length records * n → 0 < length records → length (newest_sets (levels_at n trail records)) ≡ n
+newest_length n trail records w h =
+    let k = place_of_newest n (length records) (length trail) w h in
+    ap (λ ls. length (newest_sets ls)) (levels_some n trail records h)
+    ∙ length-take-le n (drop ((length records - 1) * n) trail) (omega (arith, k, length-drop ((length records - 1) * n) trail))
+
+-- ---- levels that a step leaves alone
 
 -- the sets below a place
 sets_same : (a n b : ℕ) (trail other : List ℕ) → a + n ≤ b → take b other ≡ take b trail → take n (drop a other) ≡ take n (drop a trail)
@@ -36,70 +81,97 @@ sets_same a n b trail other h e =
     let f : take (a + n) other ≡ take (a + n) trail = sym (take-take (a + n) b other h) ∙ ap (take (a + n)) e ∙ take-take (a + n) b trail h in
     sym (drop-take a n other) ∙ ap (drop a) f ∙ drop-take a n trail
 
-abbrev pub level : List ℕ → LevelRecord → Level
+abbrev level : List ℕ → LevelRecord → Level
 level s k = record { sets = s; voice = k.voice; left = k.left }
 
-level_same : (n : ℕ) (trail other : List ℕ) (levels after : List LevelRecord) (d : ℕ) → take n (drop (d * n) other) ≡ take n (drop (d * n) trail) → get_or after d no_record ≡ get_or levels d no_record
-    → level_at n other after d ≡ level_at n trail levels d
-level_same n trail other levels after d e f =
+level_same : (n : ℕ) (trail other : List ℕ) (records after : List LevelRecord) (d : ℕ) → take n (drop (d * n) other) ≡ take n (drop (d * n) trail) → get_or after d no_record ≡ get_or records d no_record
+    → level_at n other after d ≡ level_at n trail records d
+level_same n trail other records after d e f =
     ap₂ (λ (s : List ℕ) (k : LevelRecord). level s k) e f
 
-pub levels_same : (n : ℕ) (trail other : List ℕ) (levels after : List LevelRecord) (d : ℕ) → take (d * n) other ≡ take (d * n) trail → ((i : ℕ) → i < d → get_or after i no_record ≡ get_or levels i no_record)
-    → levels_at n other after d ≡ levels_at n trail levels d
-levels_same n trail other levels after zero e f = refl
-levels_same n trail other levels after (suc d) e f =
+levels_same : (n : ℕ) (trail other : List ℕ) (records after : List LevelRecord) (d : ℕ) → take (d * n) other ≡ take (d * n) trail
+    → ((i : ℕ) → i < d → get_or after i no_record ≡ get_or records i no_record) → first_levels n other after d ≡ first_levels n trail records d
+levels_same n trail other records after zero e f = refl
+levels_same n trail other records after (suc d) e f =
     let k : d * n + n ≤ suc d * n = omega (arith, suc-mul d n) in
     let j : d * n ≤ suc d * n = omega (arith, suc-mul d n) in
     let t : take (d * n) other ≡ take (d * n) trail = sym (take-take (d * n) (suc d * n) other j) ∙ ap (take (d * n)) e ∙ take-take (d * n) (suc d * n) trail j in
-    ap₂ (λ (l : Level) (ls : List Level). l ∷ ls) (level_same n trail other levels after d (sets_same (d * n) n (suc d * n) trail other k e) (f d (omega arith)))
-    (levels_same n trail other levels after d t (λ i h. f i (omega arith)))
+    ap₂ (λ (l : Level) (ls : List Level). l ∷ ls) (level_same n trail other records after d (sets_same (d * n) n (suc d * n) trail other k e) (f d (omega arith)))
+    (levels_same n trail other records after d t (λ i h. f i (omega arith)))
 
-other_mark : (levels : List LevelRecord) (d : ℕ) (x : LevelRecord) (i : ℕ) → i < d → get_or (set levels d x) i no_record ≡ get_or levels i no_record
-other_mark levels d x i h = let n : i ≢ d = omega arith in get_or-set_other levels d i x no_record n
+-- ---- one level more
 
-pub levels_push : (n : ℕ) (trail other : List ℕ) (levels : List LevelRecord) (d v l : ℕ) (s : List ℕ) → d < length levels → take n (drop (d * n) other) ≡ s → take (d * n) other ≡ take (d * n) trail
-    → levels_at n other (set levels d (record { voice = v; left = l })) (d + 1) ≡ record { sets = s; voice = v; left = l } ∷ levels_at n trail levels d
-levels_push n trail other levels d v l s h e f =
-    let x : LevelRecord = record { voice = v; left = l } in
-    let p : d + 1 ≡ suc d = omega arith in
-    ap (levels_at n other (set levels d x)) p
-    ∙ ap₂ (λ (a : Level) (ls : List Level). a ∷ ls) (ap₂ (λ (a : List ℕ) (k : LevelRecord). level a k) e (get_or-set_same levels d x no_record h)) (levels_same n trail other levels (set levels d x) d f (other_mark levels d x))
+pub levels_push : (n : ℕ) (trail s : List ℕ) (records : List LevelRecord) (x : LevelRecord) → length trail ≡ length records * n → length s ≡ n
+    → levels_at n (trail ++ s) (records ++ (x ∷ [])) ≡ record { sets = s; voice = x.voice; left = x.left } ∷ levels_at n trail records
+levels_push n trail s records x e w =
+    let d = length records in
+    let p : length (records ++ (x ∷ [])) ≡ suc (length records) = omega (arith, length_push records x) in
+    let here : take n (drop (length records * n) (trail ++ s)) ≡ s = ap (take n) (drop_at trail s (length records * n) e) ∙ take_all n s (omega arith) in
+    let top : get_or (records ++ (x ∷ [])) (length records) no_record ≡ x = get_or_push records x no_record (length records) refl in
+    let rest : take (length records * n) (trail ++ s) ≡ take (length records * n) trail = take_at trail s (length records * n) e ∙ sym (take_all (length records * n) trail (omega arith)) in
+    ap (first_levels n (trail ++ s) (records ++ (x ∷ []))) p
+    ∙ ap₂ (λ (a : Level) (ls : List Level). a ∷ ls) (ap₂ (λ (a : List ℕ) (k : LevelRecord). level a k) here top)
+    (levels_same n trail (trail ++ s) records (records ++ (x ∷ [])) (length records) rest (λ i h. get_or_append_left records (x ∷ []) no_record i h))
 
-pub voiced_fewer : (n : ℕ) (levels : List LevelRecord) (d e : ℕ) → e ≤ d → Voiced n levels d → Voiced n levels e
-voiced_fewer n levels d e h v = λ i k. v i (omega arith)
+pub voiced_push : (n : ℕ) (records : List LevelRecord) (x : LevelRecord) → length records ≤ x.voice → x.voice < n → Voiced n records → Voiced n (records ++ (x ∷ []))
+voiced_push n records x j k w = λ i o. ⊎_elim
+    (λ b. subst (λ (m : LevelRecord). (i ≤ m.voice) × (m.voice < n)) (sym (get_or_append_left records (x ∷ []) no_record i b)) (w i b))
+    (λ b. let e : length records ≡ i = omega (arith, length_push records x) in
+    subst (λ (m : LevelRecord). (i ≤ m.voice) × (m.voice < n)) (sym (get_or_push records x no_record i e)) (omega arith, k))
+    (cases_lt i (length records))
 
-pub voiced_push : (n : ℕ) (levels : List LevelRecord) (d v l : ℕ) → d < length levels → d ≤ v → v < n → Voiced n levels d → Voiced n (set levels d (record { voice = v; left = l })) (d + 1)
-voiced_push n levels d v l h j k w = λ i o. ⊎_elim
-    (λ b. subst (λ (m : LevelRecord). (i ≤ m.voice) × (m.voice < n)) (sym (other_mark levels d (record { voice = v; left = l }) i b)) (w i b))
-    (λ b. let e : i ≡ d = omega arith in
-    subst (λ (q : ℕ). (q ≤ (get_or (set levels d (record { voice = v; left = l })) q no_record).voice) × ((get_or (set levels d (record { voice = v; left = l })) q no_record).voice < n)) (sym e)
-    (subst (λ (m : LevelRecord). (d ≤ m.voice) × (m.voice < n)) (sym (get_or-set_same levels d (record { voice = v; left = l }) no_record h)) (j, k)))
-    (cases_lt i d)
+-- ---- one level fewer
 
-pub lasting_push : (levels : List LevelRecord) (d v l : ℕ) → d < length levels → 0 < l → Lasting (set levels d (record { voice = v; left = l })) (d + 1)
-lasting_push levels d v l h k = λ o.
-    let e : d ≡ (d + 1) - 1 = omega arith in
-    subst (λ (q : ℕ). 0 < (get_or (set levels d (record { voice = v; left = l })) q no_record).left) e
-    (subst (λ (m : LevelRecord). 0 < m.left) (sym (get_or-set_same levels d (record { voice = v; left = l }) no_record h)) k)
+pub levels_pop : (n : ℕ) (trail : List ℕ) (records : List LevelRecord) → length trail ≡ length records * n → 0 < length records
+    → levels_at n (take (length trail - n) trail) (take (length records - 1) records) ≡ without_newest (levels_at n trail records)
+levels_pop n trail records e h =
+    let d = length records - 1 in
+    let p : length (take (length records - 1) records) ≡ length records - 1 = length-take-le (length records - 1) records (omega arith) in
+    let k : (length records - 1) * n ≤ length trail - n = omega (arith, place_of_newest n (length records) (length trail) e h) in
+    ap (first_levels n (take (length trail - n) trail) (take (length records - 1) records)) p
+    ∙ levels_same n trail (take (length trail - n) trail) records (take (length records - 1) records) (length records - 1)
+    (take-take ((length records - 1) * n) (length trail - n) trail k) (λ i b. get_or-take (length records - 1) records i no_record b)
+    ∙ sym (ap without_newest (levels_some n trail records h))
 
--- opening a node
-module _ (m : Meaning) (rows : List RowData) (s t : List ℕ) (ls : List Level) (v : View) (k : ℕ) where
-  at_node : {x : Node} → t ≡ propagated m rows s → k ≡ below ls → node m rows v k t ≡ x → node m rows v (below ls) (propagated m rows s) ≡ x
-  at_node e f h = sym (ap₂ (node m rows v) f e) ∙ h
+pub voiced_take : (n k : ℕ) (records : List LevelRecord) → k ≤ length records → Voiced n records → Voiced n (take k records)
+voiced_take n k records h v = λ i o.
+    let b : i < k = omega (arith, length-take-le k records h) in
+    subst (λ (m : LevelRecord). (i ≤ m.voice) × (m.voice < n)) (sym (get_or-take k records i no_record b)) (v i (omega arith))
 
-  pub opened_dead : (w : View) (rest : List Level) (x : List ℕ) (n : ℕ) → t ≡ propagated m rows s → k ≡ below ls → node m rows v k t ≡ dead → Backed m rows ls v rest w n
-      → Opened m rows s ls v (place_of Exhausted x rest) w n
-  opened_dead w rest x n e f h b =
-      record { lost = b.lost; opens = subst (λ p. Opens m rows s ls v p w n b.lost) (place_spent x rest) (Opens.dies (stop rest) w n b.lost (at_node e f h) b.backs) }
+-- ---- a value taken out of the newest level
 
-  pub opened_hit : (w : View) (rest : List Level) (x : List ℕ) (n : ℕ) → t ≡ propagated m rows s → k ≡ below ls → node m rows v k t ≡ hit → Backed m rows ls v rest w n
-      → Opened m rows s ls v (place_of Exhausted x rest) w n
-  opened_hit w rest x n e f h b =
-      record { lost = b.lost; opens = subst (λ p. Opens m rows s ls v p w n b.lost) (place_spent x rest) (Opens.hits (stop rest) w n b.lost (at_node e f h) b.backs) }
+-- the record without the value that is tried next
+abbrev pub record_taken : LevelRecord → LevelRecord
+record_taken l = record { voice = l.voice; left = l.left - only (least l.left) }
 
-  pub opened_solution : t ≡ propagated m rows s → k ≡ below ls → node m rows v k t ≡ solution (values t) → Opened m rows s ls v (place_of Found t []) v 0
-  opened_solution e f h = record { lost = 0; opens = Opens.finds (values t) (at_node e f h) }
+pub levels_tried : (n : ℕ) (trail : List ℕ) (records after : List LevelRecord) → 0 < length records
+    → after ≡ set records (length records - 1) (record_taken (get_or records (length records - 1) no_record))
+    → levels_at n trail after ≡ tried (levels_at n trail records)
+levels_tried n trail records after h t =
+    let r = record_taken (get_or records (length records - 1) no_record) in
+    let p : length after ≡ suc (length records - 1) = ap length t ∙ length-set records (length records - 1) r ∙ omega arith in
+    let top : get_or after (length records - 1) no_record ≡ record_taken (get_or records (length records - 1) no_record) =
+    ap (λ (y : List LevelRecord). get_or y (length records - 1) no_record) t ∙ get_or-set_same records (length records - 1) r no_record (omega arith) in
+    let rest : (a : ℕ) → a < length records - 1 → get_or after a no_record ≡ get_or records a no_record =
+    λ a b. let ne : a ≢ length records - 1 = omega arith in ap (λ (y : List LevelRecord). get_or y a no_record) t ∙ get_or-set_other records (length records - 1) a r no_record ne
+    in
+    ap (first_levels n trail after) p
+    ∙ ap₂ (λ (a : Level) (b : List Level). a ∷ b) (ap (λ (y : LevelRecord). level (take n (drop ((length records - 1) * n) trail)) y) top)
+    (levels_same n trail trail records after (length records - 1) refl rest)
+    ∙ sym (ap tried (levels_some n trail records h))
 
-  pub opened_branch : (l : Level) (rest : List Level) (z : End) (x : List ℕ) → t ≡ propagated m rows s → k ≡ below ls → node m rows v k t ≡ branch l → rest ≡ l ∷ ls
-      → Opened m rows s ls v (place_of z x rest) v 0
-  opened_branch l rest z x e f h c = subst (λ r. Opened m rows s ls v (place_of z x r) v 0) (sym c) (record { lost = 0; opens = Opens.branches l (at_node e f h) })
+pub voiced_tried : (n : ℕ) (records : List LevelRecord) (j : ℕ) (x : LevelRecord) → j < length records → x.voice ≡ (get_or records j no_record).voice → Voiced n records → Voiced n (set records j x)
+voiced_tried n records j x h e v = λ i o. ⊎_elim
+    (λ (b : i ≡ j).
+    let at : get_or (set records j x) i no_record ≡ x = ap (λ q. get_or (set records j x) q no_record) b ∙ get_or-set_same records j x no_record h in
+    let was = v j h in
+    subst (λ (m : LevelRecord). (i ≤ m.voice) × (m.voice < n)) (sym at) (omega (arith, was.0), omega (arith, was.1)))
+    (λ (b : i ≢ j). subst (λ (m : LevelRecord). (i ≤ m.voice) × (m.voice < n)) (sym (get_or-set_other records j i x no_record b)) (v i (omega (arith, length-set records j x))))
+    (cases_eq i j)
+
+-- the sets of the next child
+pub next_some : (n : ℕ) (voices trail : List ℕ) (records : List LevelRecord) → 0 < length records → next_sets voices (levels_at n trail records) ≡ child (level_at n trail records (length records - 1))
+next_some n voices trail records h = ap (next_sets voices) (levels_some n trail records h)
+
+pub next_none : (n : ℕ) (voices trail : List ℕ) (records : List LevelRecord) → length records ≡ 0 → next_sets voices (levels_at n trail records) ≡ voices
+next_none n voices trail records e = ap (next_sets voices) (levels_none n trail records e)

@@ -1,6 +1,6 @@
 pub mod Tests
 pub mod Openings
-pub mod Backing
 pub mod Leveled
-pub mod Stepping
+pub mod Backing
 pub mod Searching
+pub mod Stacked

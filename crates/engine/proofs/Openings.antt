@@ -1,13 +1,23 @@
 -- What a node is, by the tests in the code's order.
-use Rattle.std.proofs.Common.{◌≡◌, ℕ, zero, suc, ◌+◌, ◌<◌, ◌≤◌, Bool, true, false, ◌&&◌, eqb, List, [], ◌∷◌, length, get_or, drop, sym, refl, ap, ◌∙◌, arith, length-drop}
-use Rattle.std.proofs.lemmas.Bool.{or_parts, eqb-false}
+use Rattle.std.proofs.Common.{◌≡◌, ℕ, zero, suc, ◌+◌, ◌<◌, ◌≤◌, Bool, true, false, not, cond, Option, Some, None, ◌&&◌, eqb, List, [], ◌∷◌, length, get_or, drop, sym, refl, ap, ◌∙◌, subst, ap₂, ◌⊎◌, inl, inr, arith, length-drop}
+use Rattle.std.specs.List.{prefix_len, position}
+use Rattle.std.proofs.lemmas.Bool.{or_parts, eqb-false, ltb-true, ltb-false}
 use Rattle.sets.specs.Sets.{fixed}
 use Rattle.sets.specs.Placings.{some_empty, all_fixed, values}
 use Rattle.rows.specs.Rows.{RowData, Meaning}
 use Rattle.stores.specs.Keys.{key}
 use Rattle.stores.specs.Stores.{View, member}
-use Rattle.search.specs.Search.{Node, node, first_open, level_of}
+use Rattle.search.specs.Propagation.{propagated}
+use Rattle.search.specs.Search.{Level, Node, Place, BacksUp, Opens, node, below, first_open, level_of}
+use Rattle.search.specs.Search.Place.{going, found}
 use Rattle.search.specs.Search.Node.{dead, solution, hit, branch}
+use Rattle.engine.specs.declared.level.End.{End}
+use Rattle.engine.specs.declared.level.End.TheVariants.{Found, Exhausted}
+use Rattle.engine.specs.Levels.{tried, stop, Backed}
+use Rattle.engine.specs.Places.{place_of, Opened}
+use Rattle.engine.specs.Nodes.{node_of}
+use Rattle.engine.specs.declared.node.Node as code
+use Rattle.engine.specs.declared.node.Node.TheVariants.{Dead, Hit}
 
 -- the place of the first set that is not fixed, and whether there is one
 record FoundOpen (k : ℕ) (xs : List ℕ) (v : ℕ) (a : Bool) : Type 0 where
@@ -32,6 +42,37 @@ none_open k s v e h = (opened k (drop k s)).none (omega (arith, length-drop k s,
 
 pub some_open : (k : ℕ) (s : List ℕ) (v : ℕ) → v ≡ first_open k (drop k s) → v < length s → all_fixed (drop k s) ≡ false
 some_open k s v e h = (opened k (drop k s)).some (omega (arith, length-drop k s, (opened k (drop k s)).from, e))
+
+-- the same by how many fixed sets stand in front
+open_place : (k : ℕ) (xs : List ℕ) → first_open k xs ≡ k + prefix_len (λ x. not (not (fixed x))) xs
+open_place k [] = omega arith
+open_place k (x ∷ xs) = by (fixed x) (open_place (suc k) xs)
+  where
+    by : (b : Bool) → first_open (suc k) xs ≡ suc k + prefix_len (λ x. not (not (fixed x))) xs
+        → (elim b [ true ↦ first_open (suc k) xs | false ↦ k ]) ≡ k + cond (not (not b)) (1 + prefix_len (λ x. not (not (fixed x))) xs) 0
+    by true e = omega (arith, e)
+    by false e = omega arith
+
+is_none_by : (b : Bool) (n : ℕ) → ◌≡◌ {A = Option ℕ} None (cond b (Some n) None) → b ≡ false
+is_none_by true n e = cc
+is_none_by false n e = refl
+
+is_some_by : (b : Bool) (n i : ℕ) → ◌≡◌ {A = Option ℕ} (Some i) (cond b (Some n) None) → (b ≡ true) × (i ≡ n)
+is_some_by true n i e = (refl, cc)
+is_some_by false n i e = cc
+
+pub position_none : (k : ℕ) (s : List ℕ) → None ≡ position (λ x. not (fixed x)) (drop k s) → all_fixed (drop k s) ≡ true
+position_none k s e = none_open k s (first_open k (drop k s)) refl
+    (omega (arith, ltb-false _ _ (is_none_by _ _ e), open_place k (drop k s), length-drop k s))
+
+pub position_some : (k : ℕ) (s : List ℕ) (i : ℕ) → k ≤ length s → Some i ≡ position (λ x. not (fixed x)) (drop k s) → (k + i ≡ first_open k (drop k s)) × (k + i < length s)
+position_some k s i h e =
+    let p = is_some_by _ _ i e in
+    (omega (arith, p.1, open_place k (drop k s)), omega (arith, p.1, ltb-true _ _ p.0, length-drop k s))
+
+-- what is said of an equal list t, from an equal place k on
+pub found_open : (k : ℕ) (t : List ℕ) (i : ℕ) (s : List ℕ) (v : ℕ) → i ≡ k → s ≡ t → (v ≡ first_open i (drop i s)) × (v < length s) → (v ≡ first_open k (drop k t)) × (v < length t)
+found_open k t i s v e f h = (h.0 ∙ ap₂ (λ (j : ℕ) (x : List ℕ). first_open j (drop j x)) e f, omega (arith, h.1, ap length f))
 
 pub not_empty : (s : List ℕ) (i : ℕ) → some_empty s ≡ false → i < length s → 0 < get_or s i 0
 not_empty [] i e h = absurd (omega arith)
@@ -58,3 +99,56 @@ module _ (m : Meaning) (rows : List RowData) (v : View) (k : ℕ) (s : List ℕ)
   pub node_branch : (j : ℕ) → j ≡ first_open k (drop k s) → some_empty s ≡ false → all_fixed (drop k s) ≡ false → member (key m rows s) v.held ≡ false
       → node m rows v k s ≡ branch (record { sets = s; voice = j; left = get_or s j 0 })
   node_branch j c e f h = by_tests false false false e f h ∙ ap (λ (x : ℕ). branch (record { sets = s; voice = x; left = get_or s x 0 })) (sym c)
+
+-- ---- opening a node, from what it is
+
+below_tried : (ls : List Level) → below (tried ls) ≡ below ls
+below_tried [] = refl
+below_tried (l ∷ ls) = refl
+
+place_spent : (w : List ℕ) (ls : List Level) → stop ls ≡ place_of Exhausted w ls
+place_spent w [] = refl
+place_spent w (l ∷ ls) = refl
+
+-- a node that fails
+abbrev Fails : Node → Type 0
+Fails dead = Unit {0}
+Fails (solution p) = ⊥
+Fails hit = Unit {0}
+Fails (branch l) = ⊥
+
+pub failed : (r : code.Node) (t : List ℕ) → (r ≡ Dead) ⊎ (r ≡ Hit) → Fails (node_of r t)
+failed r t (inl e) = subst (λ (x : code.Node). Fails (node_of x t)) (sym e) tt
+failed r t (inr e) = subst (λ (x : code.Node). Fails (node_of x t)) (sym e) tt
+
+module _ (m : Meaning) (rows : List RowData) (s t : List ℕ) (ls : List Level) (v : View) where
+  at_node : {x : Node} → t ≡ propagated m rows s → node m rows v (below ls) t ≡ x → node m rows v (below (tried ls)) (propagated m rows s) ≡ x
+  at_node e h = ap₂ (node m rows v) (below_tried ls) (sym e) ∙ h
+
+  opens_failed : (x : Node) (p : Place) (w : View) (n k : ℕ) → Fails x → node m rows v (below (tried ls)) (propagated m rows s) ≡ x → BacksUp m rows (tried ls) v p w n k
+      → Opens m rows s (tried ls) v p w n k
+  opens_failed dead p w n k f h b = Opens.dies p w n k h b
+  opens_failed hit p w n k f h b = Opens.hits p w n k h b
+  opens_failed (solution q) p w n k f h b = absurd f
+  opens_failed (branch l) p w n k f h b = absurd f
+
+  pub opened_failed : (x : Node) (under : List Level) (w : View) (rest : List Level) (y : List ℕ) (n i : ℕ) → Fails x → t ≡ propagated m rows s → node m rows v (below ls) t ≡ x
+      → under ≡ tried ls → i ≡ n → Backed m rows under v rest w n → Opened m rows s (tried ls) v (place_of Exhausted y rest) w i
+  opened_failed x under w rest y n i f e h q j b =
+      let c : Backed m rows (tried ls) v rest w i = subst (λ a. Backed m rows (tried ls) v rest w a) (sym j) (subst (λ a. Backed m rows a v rest w n) q b) in
+      record { lost = c.lost; opens = subst (λ p. Opens m rows s (tried ls) v p w i c.lost) (place_spent y rest) (opens_failed x (stop rest) w i c.lost f (at_node e h) c.backs) }
+
+  pub opened_solution : (rest : List Level) (y : List ℕ) (i : ℕ) → t ≡ propagated m rows s → node m rows v (below ls) t ≡ solution (values t) → rest ≡ [] → y ≡ t → i ≡ 0
+      → Opened m rows s (tried ls) v (place_of Found y rest) v i
+  opened_solution rest y i e h q z j =
+      subst (λ a. Opened m rows s (tried ls) v (place_of Found y a) v i) (sym q)
+      (subst (λ a. Opened m rows s (tried ls) v (place_of Found a []) v i) (sym z)
+      (subst (λ a. Opened m rows s (tried ls) v (found (values t)) v a) (sym j)
+      (record { lost = 0; opens = Opens.finds (values t) (at_node e h) })))
+
+  pub opened_branch : (l : Level) (rest : List Level) (z : End) (y : List ℕ) (i : ℕ) → t ≡ propagated m rows s → node m rows v (below ls) t ≡ branch l → rest ≡ l ∷ tried ls → i ≡ 0
+      → Opened m rows s (tried ls) v (place_of z y rest) v i
+  opened_branch l rest z y i e h q j =
+      subst (λ r. Opened m rows s (tried ls) v (place_of z y r) v i) (sym q)
+      (subst (λ a. Opened m rows s (tried ls) v (going l (tried ls)) v a) (sym j)
+      (record { lost = 0; opens = Opens.branches l (at_node e h) }))

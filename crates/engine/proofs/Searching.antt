@@ -1,80 +1,42 @@
--- From slices to the fields of a search, and runs of nodes one after the other.
-use Rattle.std.proofs.Common.{◌≡◌, ℕ, zero, suc, ◌+◌, ◌<◌, ◌≤◌, true, false, ◌⊎◌, List, [], ◌∷◌, sym, refl, ap, ◌∙◌, subst, arith}
+-- One node, and runs of nodes one after the other.
+use Rattle.std.proofs.Common.{◌≡◌, ℕ, ◌+◌, ◌≤◌, true, false, ◌⊎◌, List, [], ◌∷◌, sym, subst, arith}
 use Rattle.rows.specs.Rows.{RowData, Meaning}
 use Rattle.stores.specs.Stores.{View}
-use Rattle.search.specs.Search.{Level, Place}
+use Rattle.search.specs.Search.{Level, Place, Opens, Steps, taken}
 use Rattle.search.specs.Calls.{Table, over, Goes}
-use Rattle.engine.specs.declared.level.LevelRecord.{LevelRecord}
 use Rattle.engine.specs.declared.level.End.{End}
 use Rattle.engine.specs.declared.level.End.TheVariants.{Fresh, Found, Exhausted}
-use Rattle.engine.specs.declared.outcome.Outcome.TheVariants as out
-use Rattle.engine.specs.Levels.{levels_at, Lasting, Voiced}
-use Rattle.engine.specs.Places.{place_of, Advanced}
-use Rattle.engine.specs.Searches.{Ran, Runs, outcome_of}
+use Rattle.engine.specs.Levels.{next_sets, tried}
+use Rattle.engine.specs.Places.{place_of, Opened, Advanced}
+use Rattle.engine.specs.Searches.{Ran, Runs}
 
--- ---- where a search stands that has a level
+-- ---- the node that is opened next
 
-pub going_on : (n : ℕ) (trail : List ℕ) (levels : List LevelRecord) (d : ℕ) (e : End) (w : List ℕ) → 0 < d → false ≡ over (place_of e w (levels_at n trail levels d))
-going_on n trail levels zero e w h = absurd (omega arith)
-going_on n trail levels (suc d) e w h = refl
-
-pub says_going : (n : ℕ) (trail : List ℕ) (levels : List LevelRecord) (d : ℕ) (e : End) (w : List ℕ) → 0 < d → out.Stopped ≡ outcome_of (place_of e w (levels_at n trail levels d))
-says_going n trail levels zero e w h = absurd (omega arith)
-says_going n trail levels (suc d) e w h = refl
-
-fresh_place : (e : End) (w : List ℕ) (ls : List Level) → over (place_of e w ls) ≡ false → place_of Fresh w ls ≡ place_of e w ls
-fresh_place Fresh w [] h = refl
-fresh_place Found w [] h = cc
-fresh_place Exhausted w [] h = cc
-fresh_place Fresh w (l ∷ ls) h = refl
-fresh_place Found w (l ∷ ls) h = refl
-fresh_place Exhausted w (l ∷ ls) h = refl
-
--- ---- from slices to fields
-
-pub voiced_moved : (n n' : ℕ) (levels levels' : List LevelRecord) (d : ℕ) → n' ≡ n → levels' ≡ levels → Voiced n' levels d → Voiced n levels' d
-voiced_moved n n' levels levels' d e f v = subst (λ (k : List LevelRecord). Voiced n k d) (sym f) (subst (λ (k : ℕ). Voiced k levels d) e v)
-
-pub lasting_moved : (levels levels' : List LevelRecord) (d : ℕ) → levels' ≡ levels → Lasting levels d → Lasting levels' d
-lasting_moved levels levels' d f v = subst (λ (k : List LevelRecord). Lasting k d) (sym f) v
-
--- what the slices hold before and after, and what the fields do
-pub moved : (m : Meaning) (n n' : ℕ) (voices : List ℕ) (rows : List RowData) (sets sets' trail trail' : List ℕ) (levels levels' : List LevelRecord) (d : ℕ) (e : End) (v w : View)
-    (sets'' sets''' trail'' trail''' : List ℕ) (levels'' levels''' : List LevelRecord) (d'' : ℕ) (e'' : End) (i : ℕ)
-    → n' ≡ n → sets' ≡ sets → trail' ≡ trail → levels' ≡ levels → sets''' ≡ sets'' → trail''' ≡ trail'' → levels''' ≡ levels''
-    → over (place_of e sets (levels_at n trail levels d)) ≡ false
-    → Advanced m voices rows (place_of Fresh sets' (levels_at n' trail' levels' d)) v (place_of e'' sets'' (levels_at n' trail'' levels'' d'')) w i
-    → Advanced m voices rows (place_of e sets (levels_at n trail levels d)) v (place_of e'' sets''' (levels_at n trail''' levels''' d'')) w i
-moved m n n' voices rows sets sets' trail trail' levels levels' d e v w sets'' sets''' trail'' trail''' levels'' levels''' d'' e'' i p s t u a b c h k =
-    let p₁ : place_of Fresh sets' (levels_at n' trail' levels' d) ≡ place_of e sets (levels_at n trail levels d) =
-    ap (λ (y : List ℕ). place_of Fresh y (levels_at n' trail' levels' d)) s
-    ∙ ap (λ (y : ℕ). place_of Fresh sets (levels_at y trail' levels' d)) p
-    ∙ ap (λ (y : List ℕ). place_of Fresh sets (levels_at n y levels' d)) t
-    ∙ ap (λ (y : List LevelRecord). place_of Fresh sets (levels_at n trail y d)) u
-    ∙ fresh_place e sets (levels_at n trail levels d) h
-    in
-    let p₂ : place_of e'' sets'' (levels_at n' trail'' levels'' d'') ≡ place_of e'' sets''' (levels_at n trail''' levels''' d'') =
-    ap (λ (y : List ℕ). place_of e'' y (levels_at n' trail'' levels'' d'')) (sym a)
-    ∙ ap (λ (y : ℕ). place_of e'' sets''' (levels_at y trail'' levels'' d'')) p
-    ∙ ap (λ (y : List ℕ). place_of e'' sets''' (levels_at n y levels'' d'')) (sym b)
-    ∙ ap (λ (y : List LevelRecord). place_of e'' sets''' (levels_at n trail''' y d'')) (sym c)
-    in
-    let k₁ = subst (λ (y : Place). Advanced m voices rows y v (place_of e'' sets'' (levels_at n' trail'' levels'' d'')) w i) p₁ k in
-    subst (λ (y : Place). Advanced m voices rows (place_of e sets (levels_at n trail levels d)) v y w i) p₂ k₁
+pub next_step : (m : Meaning) (voices : List ℕ) (rows : List RowData) (s : List ℕ) (ls : List Level) (e : End) (y : List ℕ) (v x : View) (q : Place) (i : ℕ)
+    → over (place_of e y ls) ≡ false → s ≡ next_sets voices ls → Opened m rows s (tried ls) v q x i → Advanced m voices rows (place_of e y ls) v q x i
+next_step m voices rows s [] Fresh y v x q i h f o =
+    record { lost = o.lost; steps = Steps.first v x q i o.lost (subst (λ t. Opens m rows t [] v q x i o.lost) f o.opens) }
+next_step m voices rows s [] Found y v x q i h f o = cc
+next_step m voices rows s [] Exhausted y v x q i h f o = cc
+next_step m voices rows s (l ∷ ls) e y v x q i h f o =
+    record { lost = o.lost; steps = Steps.again l ls v x q i o.lost (subst (λ t. Opens m rows t (taken l ∷ ls) v q x i o.lost) f o.opens) }
 
 -- ---- runs
 
 abbrev table : List ℕ → List RowData → Place → ℕ → ℕ → ℕ → Table
 table voices rows p o e lost = record { voices = voices; rows = rows; place = p; opened = o; exhausted = e; lost = lost }
 
-pub ran_one : (m : Meaning) (voices : List ℕ) (rows : List RowData) (p q : Place) (o e : ℕ) (v w : View) (n : ℕ) → Advanced m voices rows p v q w n
+pub ran_one : (m : Meaning) (voices : List ℕ) (rows : List RowData) (p q : Place) (o e o' e' : ℕ) (v w : View) (n : ℕ) → o' ≡ o + 1 → e' ≡ e + n → Advanced m voices rows p v q w n
     → Ran m 1 (λ j. record { voices = voices; rows = rows; place = p; opened = o; exhausted = e; lost = j }) v
-    (λ j. record { voices = voices; rows = rows; place = q; opened = o + 1; exhausted = e + n; lost = j }) w
-ran_one m voices rows p q o e v w n a = record {
-  lost = a.lost;
-  goes = λ j. Goes.more 0 (table voices rows p o e j) (table voices rows q (o + 1) (e + n) (j + a.lost)) v w w q n a.lost a.steps
-      (Goes.stay (table voices rows q (o + 1) (e + n) (j + a.lost)) w);
-}
+    (λ j. record { voices = voices; rows = rows; place = q; opened = o'; exhausted = e'; lost = j }) w
+ran_one m voices rows p q o e o' e' v w n c d a =
+    subst (λ (x : ℕ). Ran m 1 (λ j. table voices rows p o e j) v (λ j. table voices rows q x e' j) w) (sym c)
+    (subst (λ (x : ℕ). Ran m 1 (λ j. table voices rows p o e j) v (λ j. table voices rows q (o + 1) x j) w) (sym d)
+    (record {
+      lost = a.lost;
+      goes = λ j. Goes.more 0 (table voices rows p o e j) (table voices rows q (o + 1) (e + n) (j + a.lost)) v w w q n a.lost a.steps
+          (Goes.stay (table voices rows q (o + 1) (e + n) (j + a.lost)) w);
+    }))
 
 recount : {m : Meaning} {b c : ℕ} {t : Table} {v : View} {u : Table} {w : View} → b ≡ c → Goes m b t v u w → Goes m c t v u w
 recount {m} {b} {c} {t} {v} {u} {w} e g = subst (λ (n : ℕ). Goes m n t v u w) e g

@@ -1,38 +1,17 @@
--- Steps of the scan for a voice that is not fixed, and keys written at the front of words.
-use Rattle.std.proofs.Common.{◌≡◌, ℕ, suc, ◌+◌, ◌-◌, ◌^◌, ◌<◌, ◌≤◌, Bool, true, false, cond, eqb, List, ◌++◌, length, get_or, take, drop, Some, None, sym, refl, ap, ◌∙◌, ap₂, add-one, arith}
+-- Keys that fit, and the least value taken out of a set.
+use Rattle.std.proofs.Common.{◌≡◌, ℕ, ◌-◌, ◌^◌, ◌<◌, ◌≤◌, Bool, true, false, cond, eqb, List, length, Some, None, sym, refl, ap, ◌∙◌, arith}
 use lib.Count.{count_trailing_zeros}
-use Rattle.std.proofs.lemmas.List.{at_drop_more, at_drop_all, take_at}
 use Rattle.std.proofs.lemmas.Bool.{le-leb, eqb-true, eqb-false, ne_eqb}
-use Rattle.sets.specs.Sets.{fixed, least, only, mask}
+use Rattle.sets.specs.Sets.{least, only, mask}
 use Rattle.sets.proofs.Masks.{only_mask, none_mask}
 use Rattle.sets.proofs.Membership.{least_below, has_least, has_at_least}
-use Rattle.search.specs.Search.{first_open}
-use Rattle.stores.specs.Keys.{put_answer, put_after}
-
--- ---- the first voice that is not fixed
-
-open_step : (xs : List ℕ) (i : ℕ) → i < length xs → first_open i (drop i xs) ≡ elim (fixed (get_or xs i 0)) [ true ↦ first_open (suc i) (drop (i + 1) xs) | false ↦ i ]
-open_step xs i h = at_drop_more (first_open i) xs i 0 h
-
-pub open_more : (xs : List ℕ) (i : ℕ) → i < length xs → fixed (get_or xs i 0) ≡ true → first_open i (drop i xs) ≡ first_open (i + 1) (drop (i + 1) xs)
-open_more xs i h e = open_step xs i h ∙ ap (λ (b : Bool). elim b as (λ (_ : Bool). ℕ) [ true ↦ first_open (suc i) (drop (i + 1) xs) | false ↦ i ]) e ∙ ap (λ (j : ℕ). first_open j (drop (i + 1) xs)) (sym (add-one i))
-
-pub open_here : (xs : List ℕ) (i : ℕ) → i < length xs → fixed (get_or xs i 0) ≡ false → first_open i (drop i xs) ≡ i
-open_here xs i h e = open_step xs i h ∙ ap (λ (b : Bool). elim b as (λ (_ : Bool). ℕ) [ true ↦ first_open (suc i) (drop (i + 1) xs) | false ↦ i ]) e
-
-pub open_none : (xs : List ℕ) (i : ℕ) → length xs ≤ i → first_open i (drop i xs) ≡ i
-open_none xs i h = at_drop_all (first_open i) xs i h
+use Rattle.stores.specs.Keys.{put_answer}
 
 -- ---- keys
 
 -- a key that fits is written whole
-pub key_fits : (k words : List ℕ) → length k ≤ length words → put_answer k words ≡ Some (length k)
+key_fits : (k words : List ℕ) → length k ≤ length words → put_answer k words ≡ Some (length k)
 key_fits k words h = ap (λ (b : Bool). cond b (Some (length k)) None) (le-leb (length k) (length words) h)
-
-pub key_front : (k words after : List ℕ) (n : ℕ) → length k ≤ length words → Some n ≡ put_answer k words → after ≡ put_after k words → take n after ≡ k
-key_front k words after n h e f =
-    let p : n ≡ length k = cc (key_fits k words h) in
-    ap₂ take p (f ∙ ap (λ (b : Bool). cond b (k ++ drop (length k) words) words) (le-leb (length k) (length words) h)) ∙ take_at k (drop (length k) words) (length k) refl
 
 pub key_not : {A : Type 0} (k words : List ℕ) → length k ≤ length words → None ≡ put_answer k words → A
 key_not k words h e = let z : ◌≡◌ {A = ℕ} 0 1 = cc (key_fits k words h) in absurd (omega arith)

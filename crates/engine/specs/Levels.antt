@@ -1,9 +1,8 @@
 -- Levels as memory holds them: their records, the oldest first, and the sets of all of them, n to a level, in one list (the trail).
-use Rattle.std.specs.Prelude.{ℕ, zero, suc, ◌-◌, ◌*◌, ◌<◌, ◌≤◌, List, [], ◌∷◌, take, drop, slice_index_or}
-use Rattle.sets.specs.Sets.{least, only}
+use Rattle.std.specs.Prelude.{ℕ, zero, suc, ◌*◌, ◌<◌, ◌≤◌, Bool, true, false, List, [], ◌∷◌, length, take, drop, ◌==◌, slice_index_or}
 use Rattle.rows.specs.Rows.{RowData, Meaning}
 use Rattle.stores.specs.Stores.{View}
-use Rattle.search.specs.Search.{Level, Place, BacksUp}
+use Rattle.search.specs.Search.{Level, Place, BacksUp, child, taken}
 use Rattle.search.specs.Search.Place.{going, none}
 use Rattle.engine.specs.declared.level.LevelRecord.{LevelRecord}
 
@@ -13,16 +12,50 @@ no_record = record { voice = 0; left = 0 }
 
 -- the level d, counted from the oldest
 abbrev pub level_at : ℕ → List ℕ → List LevelRecord → ℕ → Level
-level_at n trail levels d = record { sets = take n (drop (d * n) trail); voice = (slice_index_or levels d no_record).voice; left = (slice_index_or levels d no_record).left }
+level_at n trail records d = record { sets = take n (drop (d * n) trail); voice = (slice_index_or records d no_record).voice; left = (slice_index_or records d no_record).left }
 
 -- the first d levels, newest first
-abbrev pub levels_at : ℕ → List ℕ → List LevelRecord → ℕ → List Level
-levels_at n trail levels zero = []
-levels_at n trail levels (suc d) = level_at n trail levels d ∷ levels_at n trail levels d
+abbrev pub first_levels : ℕ → List ℕ → List LevelRecord → ℕ → List Level
+first_levels n trail records zero = []
+first_levels n trail records (suc d) = level_at n trail records d ∷ first_levels n trail records d
 
--- the record without the value that is tried next
-abbrev pub record_taken : LevelRecord → LevelRecord
-record_taken l = record { voice = l.voice; left = l.left - only (least l.left) }
+-- all levels, newest first
+abbrev pub levels_at : ℕ → List ℕ → List LevelRecord → List Level
+levels_at n trail records = first_levels n trail records (length records)
+
+-- each level branches on one of the n voices, and on none below its own number
+abbrev pub Voiced : ℕ → List LevelRecord → Type 0
+Voiced n records = (i : ℕ) → i < length records → (i ≤ (slice_index_or records i no_record).voice) × ((slice_index_or records i no_record).voice < n)
+
+-- ---- what is done with levels, newest first
+
+-- there is none
+abbrev pub is_none : List Level → Bool
+is_none [] = true
+is_none (l ∷ ls) = false
+
+-- there is one, and the newest has no value left to try
+abbrev pub is_spent : List Level → Bool
+is_spent [] = false
+is_spent (l ∷ ls) = l.left == 0
+
+-- the sets of the newest, and the others
+abbrev pub newest_sets : List Level → List ℕ
+newest_sets [] = []
+newest_sets (l ∷ ls) = l.sets
+
+abbrev pub without_newest : List Level → List Level
+without_newest [] = []
+without_newest (l ∷ ls) = ls
+
+-- the sets of the node that is opened next, the root or the newest level's next child, and the levels that it is opened below
+abbrev pub next_sets : List ℕ → List Level → List ℕ
+next_sets voices [] = voices
+next_sets voices (l ∷ ls) = child l
+
+abbrev pub tried : List Level → List Level
+tried [] = []
+tried (l ∷ ls) = taken l ∷ ls
 
 -- where a search stands that has backed up to these levels
 abbrev pub stop : List Level → Place
@@ -33,16 +66,3 @@ stop (l ∷ ls) = going l ls
 pub record Backed (m : Meaning) (rows : List RowData) (ls : List Level) (v : View) (rest : List Level) (w : View) (n : ℕ) : Type 0 where
   pub lost : ℕ
   pub backs : BacksUp m rows ls v (stop rest) w n lost
-
--- the newest of the first d levels has a value left to try
-abbrev pub Lasting : List LevelRecord → ℕ → Type 0
-Lasting levels d = 0 < d → 0 < (slice_index_or levels (d - 1) no_record).left
-
--- each of the first d levels branches on one of the n voices, and on none below its own number
-abbrev pub Voiced : ℕ → List LevelRecord → ℕ → Type 0
-Voiced n levels d = (i : ℕ) → i < d → (i ≤ (slice_index_or levels i no_record).voice) × ((slice_index_or levels i no_record).voice < n)
-
--- the voices below this one are fixed in every node under the first d levels
-abbrev pub below_at : List LevelRecord → ℕ → ℕ
-below_at levels zero = 0
-below_at levels (suc d) = suc (slice_index_or levels d no_record).voice

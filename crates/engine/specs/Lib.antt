@@ -3,3 +3,4 @@ pub mod Nodes
 pub mod Outcomes
 pub mod Places
 pub mod Searches
+pub mod Stacks

@@ -1,6 +1,6 @@
 -- What the code's answer on a node says.
-use Rattle.std.specs.Prelude.{ℕ, ◌<◌, ◌≤◌, List, length, slice_index}
-use Rattle.sets.specs.Placings.{values}
+use Rattle.std.specs.Prelude.{◌≡◌, ℕ, ◌<◌, ◌≤◌, true, List, length, drop, slice_index, Option, Some, None}
+use Rattle.sets.specs.Placings.{values, all_fixed}
 use Rattle.search.specs.Search as search
 use Rattle.search.specs.Search.Node.{dead, solution, hit, branch}
 use Rattle.engine.specs.declared.node.Node.{Node}
@@ -19,3 +19,8 @@ Branches Dead k s = Unit {0}
 Branches Solution k s = Unit {0}
 Branches Hit k s = Unit {0}
 Branches (Branch v) k s = (k ≤ v) × (v < length s) × (0 < slice_index s v)
+
+-- the first voice from k on that is not fixed, or none where all are fixed
+abbrev pub FirstOpen : ℕ → List ℕ → Option ℕ → Type 0
+FirstOpen k s None = all_fixed (drop k s) ≡ true
+FirstOpen k s (Some v) = (v ≡ search.first_open k (drop k s)) × (v < length s)

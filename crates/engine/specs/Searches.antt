@@ -1,12 +1,12 @@
 -- What the state of a search says.
-use Rattle.std.specs.Prelude.{◌≡◌, ℕ, ◌+◌, List, vec_items, vec_len}
+use Rattle.std.specs.Prelude.{◌≡◌, ℕ, ◌+◌, List, [], vec_items, vec_len}
 use Rattle.rows.specs.Rows.{RowData, Meaning}
 use Rattle.stores.specs.Stores.{View}
 use Rattle.search.specs.Search.{Level, Place}
 use Rattle.search.specs.Search.Place.{fresh, going, found, none}
 use Rattle.search.specs.Calls.{Table, Goes, Solved}
-use Rattle.engine.specs.Levels.{levels_at}
 use Rattle.engine.specs.Places.{place_of}
+use Rattle.engine.specs.Stacks.{listed}
 use Rattle.engine.specs.declared.state.Search.{Search}
 use Rattle.engine.specs.declared.level.End.TheVariants.{Fresh}
 use Rattle.engine.specs.declared.outcome.Outcome.{Outcome}
@@ -21,7 +21,7 @@ node_sets s = vec_items s.sets
 
 -- its levels, newest first, and where it stands
 abbrev pub levels_of : Search → List Level
-levels_of s = levels_at (vec_len s.sets) (vec_items s.trail) (vec_items s.levels) s.depth
+levels_of s = listed s.levels
 
 abbrev pub place : Search → Place
 place s = place_of s.end (vec_items s.sets) (levels_of s)
@@ -30,10 +30,18 @@ place s = place_of s.end (vec_items s.sets) (levels_of s)
 abbrev pub table_of : List ℕ → List RowData → Search → ℕ → Table
 table_of voices rows s lost = record { voices = voices; rows = rows; place = place s; opened = s.opened; exhausted = s.exhausted; lost = lost }
 
+-- a search stands where it stood, with the same counts, whatever the sets of the node are
+pub record SamePlace (s t : Search) : Type 0 where
+  pub voices : voice_count t ≡ voice_count s
+  pub levels : t.levels ≡ s.levels
+  pub end : t.end ≡ s.end
+  pub opened : t.opened ≡ s.opened
+  pub exhausted : t.exhausted ≡ s.exhausted
+
 -- a search with n voices that has not begun
 pub record Begun (n : ℕ) (s : Search) : Type 0 where
   pub voices : voice_count s ≡ n
-  pub level_none : s.depth ≡ 0
+  pub level_none : levels_of s ≡ []
   pub fresh_end : s.end ≡ Fresh
   pub none_opened : s.opened ≡ 0
   pub none_exhausted : s.exhausted ≡ 0

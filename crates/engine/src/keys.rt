@@ -1,46 +1,65 @@
-// Keys written, and given to a store.
-ghost use Rattle.std.specs.Prelude.{◌≡◌, ◌+◌, ◌*◌, ◌≤◌, length, take, drop};
+// Keys written, looked up in a store, and given to it.
+ghost use Rattle.std.specs.Prelude.{◌≡◌, ◌+◌, ◌*◌, ◌≤◌, length, vec_len};
 ghost use Rattle.rows.specs.Views.{rows_of};
+ghost use Rattle.search.specs.Limits.{most_voices, most_rows};
 ghost use Rattle.stores.specs.Keys.{key};
 ghost use Rattle.stores.specs.Stores.{member, Keeps};
 
 use rows::bank::Bank;
 use rows::row::Row;
 use sets::ValueSet;
+use std::alloc::{AllocError, Global};
 use stores::key::write_key;
 use stores::store::{Store, Stored};
 
-// Whether the store holds the key of these sets. `words` has room for it.
-pub(crate) fn find_key<B: Bank, S: Store>(
-    rows: &[Row],
-    sets: &[ValueSet],
-    words: &mut [u64],
-    store: &S,
-) -> bool
-    requires { length sets.now + 2 * length rows.now ≤ length words.old }
-    ensures { result ≡ member (key B.Bank.meaning (rows_of rows.now) sets.now) (S.Store.view store.now).held }
-{
-    match write_key::<B>(rows, sets, words) {
-        Some(n) => store.find(&words[..n]),
-        None => false,
-    }
+// The words of the longest key.
+const KEY_WORDS: usize = 320;
+
+// Room for a key, reserved when it is made. It stays filled, since a key is written into a slice.
+#[derive(Drop)]
+pub struct KeyBuffer {
+    words: Vec<u64>,
+    ghost room: { most_voices + 2 * most_rows ≤ vec_len words },
 }
 
-// Gives the key of the n sets in the trail, from `at` on, to the store.
-pub(crate) fn keep_key<B: Bank, S: Store>(
-    rows: &[Row],
-    n: usize,
-    trail: &[ValueSet],
-    at: usize,
-    words: &mut [u64],
-    store: &mut S,
-) -> Stored
-    requires words { n + 2 * length rows.now ≤ length words.old }
-    requires inside { at + n ≤ length trail.now }
-    ensures { Keeps (S.Store.view store.old) (key B.Bank.meaning (rows_of rows.now) (take n (drop at trail.now))) result (S.Store.view store.new) }
-{
-    match write_key::<B>(rows, &trail[at..at + n], words) {
-        Some(length) => store.keep(&words[..length]),
-        None => Stored::Lost,
+impl KeyBuffer {
+    // Room for the longest key.
+    pub(crate) fn new(heap: Global) -> Result<KeyBuffer, AllocError> {
+        let words = Vec::from_elem(heap, 0u64, KEY_WORDS)?;
+        Ok(KeyBuffer { words })
+    }
+
+    // Whether the store holds the key of these sets.
+    pub(crate) fn find<B: Bank, S: Store>(
+        &mut self,
+        rows: &[Row],
+        sets: &[ValueSet],
+        store: &S,
+    ) -> bool
+        requires sets { length sets.now ≤ most_voices }
+        requires rows { length rows.now ≤ most_rows }
+        ensures { result ≡ member (key B.Bank.meaning (rows_of rows.now) sets.now) (S.Store.view store.now).held }
+    {
+        match write_key::<B>(rows, sets, &mut self.words) {
+            Some(n) => store.find(&self.words[..n]),
+            None => false,
+        }
+    }
+
+    // Gives the key of these sets to the store.
+    pub(crate) fn keep<B: Bank, S: Store>(
+        &mut self,
+        rows: &[Row],
+        sets: &[ValueSet],
+        store: &mut S,
+    ) -> Stored
+        requires sets { length sets.now ≤ most_voices }
+        requires rows { length rows.now ≤ most_rows }
+        ensures { Keeps (S.Store.view store.old) (key B.Bank.meaning (rows_of rows.now) sets.now) result (S.Store.view store.new) }
+    {
+        match write_key::<B>(rows, sets, &mut self.words) {
+            Some(n) => store.keep(&self.words[..n]),
+            None => Stored::Lost,
+        }
     }
 }

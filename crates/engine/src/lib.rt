@@ -1,12 +1,10 @@
-// The search over memory that is there: what a node is, backing up, opening a node, one node after the other.
+// The search over memory that is there: its levels, keys, backing up, and one node after the other.
 #![tactic(auto)]
 
-pub mod advance;
-pub mod back;
 pub mod keys;
 pub mod level;
+pub mod levels;
 pub mod node;
-pub mod open;
 pub mod outcome;
 pub mod state;
 pub mod values;

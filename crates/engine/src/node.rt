@@ -1,5 +1,4 @@
 // What a node is. The enum stands alone here, since the definitions name it.
-pub mod ops;
 
 // A set is empty; all voices are fixed; the store holds its key; it has children, which fix this voice.
 #[derive(Clone, Copy, Debug, PartialEq, Eq)]

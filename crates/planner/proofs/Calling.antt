@@ -1,5 +1,5 @@
 -- What a call does, from what its code leaves; and what then lasts over whole histories.
-use Rattle.std.proofs.Common.{◌≡◌, ℕ, ◌+◌, false, ◌⊎◌, List, [], ◌∷◌, ◌++◌, length, drop, vec_items, vec_len, sym, refl, ap, ◌∙◌, subst, inl, inr}
+use Rattle.std.proofs.Common.{◌≡◌, ℕ, ◌+◌, false, ◌⊎◌, List, [], ◌∷◌, ◌++◌, length, drop, vec_items, sym, refl, ap, ◌∙◌, subst, inl, inr}
 use Rattle.std.proofs.lemmas.List.{length-map}
 use Rattle.sets.specs.Sets.{least}
 use Rattle.sets.specs.Placings.{values}
@@ -19,7 +19,6 @@ use Rattle.engine.specs.declared.level.End.TheVariants.{Fresh, Found, Exhausted}
 use Rattle.engine.specs.declared.outcome.Outcome.{Outcome}
 use Rattle.engine.specs.declared.outcome.Outcome.TheVariants as out
 use Rattle.engine.specs.declared.state.Search.{Search}
-use Rattle.engine.specs.Levels.{levels_at}
 use Rattle.engine.specs.Places.{place_of}
 use Rattle.engine.specs.Searches.{place, table_of, Begun, outcome_of, Runs}
 use Rattle.planner.specs.Shown.{outcome_answer}
@@ -54,19 +53,11 @@ lasts_by m L t v c a u w f d = record {
 
 pub begun_table : (voices : List ℕ) (rows : List RowData) (n : ℕ) (s : Search) → Begun n s → table_of voices rows s 0 ≡ begun voices rows
 begun_table voices rows n s b =
-    let at : ℕ → End → ℕ → ℕ → Table = λ d e o x.
-    record {
-      voices = voices;
-      rows = rows;
-      place = place_of e (vec_items s.sets) (levels_at (vec_len s.sets) (vec_items s.trail) (vec_items s.levels) d);
-      opened = o;
-      exhausted = x;
-      lost = 0;
-    } in
-    ap (λ (d : ℕ). at d s.end s.opened s.exhausted) b.level_none
-    ∙ ap (λ (e : End). at 0 e s.opened s.exhausted) b.fresh_end
-    ∙ ap (λ (o : ℕ). at 0 Fresh o s.exhausted) b.none_opened
-    ∙ ap (λ (x : ℕ). at 0 Fresh 0 x) b.none_exhausted
+    let at : List Level → End → ℕ → ℕ → Table = λ ls e o x. record { voices = voices; rows = rows; place = place_of e (vec_items s.sets) ls; opened = o; exhausted = x; lost = 0 } in
+    ap (λ (ls : List Level). at ls s.end s.opened s.exhausted) b.level_none
+    ∙ ap (λ (e : End). at [] e s.opened s.exhausted) b.fresh_end
+    ∙ ap (λ (o : ℕ). at [] Fresh o s.exhausted) b.none_opened
+    ∙ ap (λ (x : ℕ). at [] Fresh 0 x) b.none_exhausted
 
 -- ---- what the calls do
 

@@ -4,16 +4,13 @@ ghost use Rattle.search.specs.Limits.{most_voices};
 ghost use Rattle.search.specs.Calls.{over};
 ghost use Rattle.engine.specs.Searches.{Begun, voice_count, node_sets, place, outcome_of};
 
-use crate::level::{End, LevelRecord};
+use crate::keys::KeyBuffer;
+use crate::level::End;
+use crate::levels::Levels;
 use crate::outcome::Outcome;
 use crate::state::{MOST_VOICES, Search};
 use sets::ValueSet;
 use std::alloc::{AllocError, Global};
-
-// The words of the longest key, and the sets of all levels.
-const KEY_WORDS: usize = 320;
-
-const TRAIL: usize = 6400;
 
 impl Search {
     // A search with no voices that has not begun.
@@ -21,15 +18,12 @@ impl Search {
         ensures { IfOk result (λ s. Begun 0 s) }
     {
         let sets = Vec::with_capacity(heap, MOST_VOICES)?;
-        let words = Vec::from_elem(heap, 0u64, KEY_WORDS)?;
-        let trail = Vec::from_elem(heap, 0u64, TRAIL)?;
-        let levels = Vec::from_elem(heap, LevelRecord { voice: 0, left: 0 }, MOST_VOICES)?;
+        let keys = KeyBuffer::new(heap)?;
+        let levels = Levels::new(heap)?;
         Ok(Search {
             sets,
-            words,
-            trail,
+            keys,
             levels,
-            depth: 0,
             end: End::Fresh,
             opened: 0,
             exhausted: 0,
@@ -40,7 +34,7 @@ impl Search {
     pub fn restart(&mut self)
         ensures { Begun (voice_count self.old) self.new }
     {
-        self.depth = 0;
+        self.levels.restart(self.sets.len());
         self.end = End::Fresh;
         self.opened = 0;
         self.exhausted = 0;
@@ -53,6 +47,7 @@ impl Search {
     {
         self.restart();
         self.sets.push_reserved(0);
+        self.levels.restart(self.sets.len());
     }
 
     // The search begins again with no voices.
@@ -61,13 +56,14 @@ impl Search {
     {
         self.restart();
         self.sets.clear();
+        self.levels.restart(0);
     }
 
     // What the search has come to.
     pub fn outcome(&self) -> Outcome
         ensures { result ≡ outcome_of (place self.now) }
     {
-        if self.depth > 0 {
+        if !self.levels.is_empty() {
             return Outcome::Stopped;
         }
         match self.end {
@@ -81,14 +77,7 @@ impl Search {
     pub fn is_over(&self) -> bool
         ensures { result ≡ over (place self.now) }
     {
-        if self.depth > 0 {
-            return false;
-        }
-        match self.end {
-            End::Fresh => false,
-            End::Found => true,
-            End::Exhausted => true,
-        }
+        self.levels.is_empty() && matches!(self.end, End::Found | End::Exhausted)
     }
 
     // The sets of the node that was opened last, or that was found.

@@ -1,11 +1,14 @@
 // A search run, one node after the other.
-ghost use Rattle.std.specs.Prelude.{◌≡◌, ◌+◌, ◌<◌, ◌≤◌, false, length};
+ghost use Rattle.std.specs.Prelude.{◌≡◌, ◌+◌, ◌-◌, ◌<◌, ◌≤◌, false, length};
 ghost use Rattle.rows.specs.Views.{rows_of};
 ghost use Rattle.search.specs.Limits.{most_rows, most_opened};
 ghost use Rattle.search.specs.Calls.{over};
-ghost use Rattle.engine.specs.Searches.{voice_count, place, table_of, Ran, Runs};
+ghost use Rattle.engine.specs.Levels.{tried};
+ghost use Rattle.engine.specs.Places.{Opened};
+ghost use Rattle.engine.specs.Searches.{voice_count, node_sets, levels_of, place, table_of, Ran, Runs};
 
-use crate::advance::advance;
+use crate::level::End;
+use crate::node::Node;
 use crate::state::Search;
 use rows::bank::Bank;
 use rows::row::Row;
@@ -13,7 +16,33 @@ use sets::ValueSet;
 use stores::store::Store;
 
 impl Search {
-    // Opens one node.
+    // Opens the node with the sets that were read, which is the newest level's next child, or the root if there is no level.
+    fn open_node<B: Bank, S: Store>(&mut self, rows: &[Row], store: &mut S)
+        requires rows { length rows.now ≤ most_rows }
+        requires few { self.old.opened < most_opened }
+        ensures opens { Opened B.Bank.meaning (rows_of rows.now) (node_sets self.old) (tried (levels_of self.old)) (S.Store.view store.old) (place self.new) (S.Store.view store.new) (self.new.exhausted - self.old.exhausted) }
+        ensures more { self.old.exhausted ≤ self.new.exhausted }
+        ensures voices { voice_count self.new ≡ voice_count self.old }
+        ensures count { self.new.opened ≡ self.old.opened + 1 }
+    {
+        let node = self.classify::<B, S>(rows, store);
+        // only now, since the newest level may have no value left from here to the end
+        self.levels.take_next();
+        self.opened += 1;
+        match node {
+            Node::Dead | Node::Hit => {
+                self.exhausted += self.levels.back_up::<B, S>(rows, &mut self.keys, store) as u64;
+                self.end = End::Exhausted;
+            }
+            Node::Solution => {
+                self.levels.clear();
+                self.end = End::Found;
+            }
+            Node::Branch(v) => self.levels.push(v, &self.sets),
+        }
+    }
+
+    // Opens the root, or the next child of the newest level.
     fn step<B: Bank, S: Store>(&mut self, rows: &[Row], voices: &[ValueSet], store: &mut S)
         requires open { over (place self.old) ≡ false }
         requires voices { length voices.now ≡ voice_count self.old }
@@ -23,20 +52,8 @@ impl Search {
         ensures voices { voice_count self.new ≡ voice_count self.old }
         ensures count { self.new.opened ≡ self.old.opened + 1 }
     {
-        let next = advance::<B, S>(
-            rows,
-            voices,
-            &mut self.sets,
-            &mut self.words,
-            &mut self.trail,
-            &mut self.levels,
-            self.depth,
-            store,
-        );
-        self.depth = next.depth;
-        self.end = next.end;
-        self.opened += 1;
-        self.exhausted += next.exhausted as u64;
+        self.levels.read_next(voices, &mut self.sets);
+        self.open_node::<B, S>(rows, store);
     }
 
     // Opens nodes until the search is over, and at most `budget` of them.
@@ -53,13 +70,11 @@ impl Search {
         ensures runs { Runs B.Bank.meaning budget (table_of voices.now (rows_of rows.now) self.old) (S.Store.view store.old) (table_of voices.now (rows_of rows.now) self.new) (S.Store.view store.new) }
         ensures voices { voice_count self.new ≡ voice_count self.old }
     {
-        let mut left = budget;
-        while left > 0 {
+        for _ in 0..budget {
             if self.is_over() {
                 return;
             }
             self.step::<B, S>(rows, voices, store);
-            left -= 1;
         }
     }
 }

@@ -1,0 +1,35 @@
+-- A stack's own facts, as its steps use them.
+use Rattle.std.proofs.Common.{◌≡◌, ℕ, suc, ◌+◌, ◌-◌, ◌*◌, ◌<◌, ◌≤◌, false, length, sym, ap, ◌∙◌, suc-mul, arith}
+use Rattle.std.proofs.lemmas.Nat.{mul-le}
+use Rattle.search.specs.Search.{below}
+use Rattle.engine.specs.declared.levels.Levels.{Levels}
+use Rattle.engine.specs.Levels.{is_none}
+use Rattle.engine.specs.Stacks.{listed}
+use Rattle.engine.proofs.Leveled.{some_from, place_of_newest, deep_below}
+
+-- the trail is as long as its levels
+pub whole_trail : (l : Levels) → length l.trail.items ≡ length l.records.items * l.width
+whole_trail l = sym l.trail.ok.0 ∙ l.whole ∙ ap (λ (n : ℕ). n * l.width) l.records.ok.0
+
+-- where there is a level, its sets are there
+pub some_records : (l : Levels) → is_none (listed l) ≡ false → 0 < length l.records.items
+some_records l e = some_from l.width l.trail.items l.records.items e
+
+pub below_newest : (l : Levels) → is_none (listed l) ≡ false → (l.records.len - 1) * l.width + l.width ≡ l.trail.len
+below_newest l e = place_of_newest l.width l.records.len l.trail.len l.whole (omega (arith, some_records l e, l.records.ok.0))
+
+-- room for one level more, which branches on a voice that is not fixed
+pub record Roomy (l : Levels) (v : ℕ) : Type 0 where
+  pub above : length l.records.items ≤ v
+  pub fewer : l.records.len < l.width
+  pub room : l.trail.len + l.width ≤ l.trail.cap
+
+pub roomy : (l : Levels) (v : ℕ) → below (listed l) ≤ v → v < l.width → Roomy l v
+roomy l v h k =
+    let d = deep_below l.width l.trail.items l.records.items l.voiced in
+    let f : l.records.len < l.width = omega (arith, d, h, k, l.records.ok.0) in
+    record {
+      above = omega (arith, d, h);
+      fewer = f;
+      room = omega (arith, l.whole, suc-mul l.records.len l.width, mul-le (suc l.records.len) l.width 80 80 (omega (arith, l.narrow)) l.narrow, l.broad);
+    }

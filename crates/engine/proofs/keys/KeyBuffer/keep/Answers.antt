@@ -1,0 +1,12 @@
+use Rattle.std.proofs.Common.{◌≤◌, length, arith}
+use Rattle.rows.specs.Views.{rows_of}
+use Rattle.stores.specs.Keys.{key}
+use Rattle.stores.proofs.Writing.{key_length}
+use Rattle.engine.proofs.Tests.{key_not}
+use Rattle.engine.proofs.keys.KeyBuffer.keep.Goals as goal
+
+pub returns-in-None : goal.returns-in-None
+returns-in-None g c =
+    let k = key g.B.Bank.meaning (rows_of c.args.rows.now) c.args.sets.now in
+    let h : length k ≤ length c.deref_mut.result.now = omega (arith, key_length g.B.Bank.meaning c.args.rows.now c.args.sets.now, c.requires, c.args.self.now.room, c.deref_mut.ensures.len) in
+    key_not k c.deref_mut.result.now h c.in-None.ensures.value

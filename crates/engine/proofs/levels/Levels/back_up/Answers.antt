@@ -1,0 +1,33 @@
+use Rattle.std.proofs.Common.{ℕ, ◌+◌, List, sym, refl, ◌∙◌, subst, arith}
+use Rattle.rows.specs.Views.{rows_of}
+use Rattle.search.specs.Search.{Level}
+use Rattle.stores.specs.Keys.{key}
+use Rattle.stores.specs.Stores.{Keeps}
+use Rattle.engine.specs.Stacks.{listed}
+use Rattle.engine.proofs.Backing.{Behind, behind_more, backed}
+use Rattle.engine.proofs.levels.Levels.back_up.Goals as goal
+
+pub loop-keys-smaller : goal.loop-keys-smaller
+loop-keys-smaller g c = omega (arith, c.pop.ensures.count)
+
+pub loop-keys-preserved : goal.loop-keys-preserved
+loop-keys-preserved g c =
+    let m = g.B.Bank.meaning in
+    let rows = rows_of c.args.rows.now in
+    let start = listed c.args.self.now in
+    let v = g.S.Store.view c.args.store.now in
+    let w = g.S.Store.view c.loop-keys.store in
+    let x = g.S.Store.view c.keep.new.store in
+    let kept = subst (λ (y : List ℕ). Keeps w (key m rows y) c.keep.result x) c.newest_sets.ensures.value c.keep.ensures in
+    record {
+      width = c.pop.ensures.width ∙ c.loop-keys.invariant.width;
+      count = omega (arith, c.pop.ensures.count, c.loop-keys.invariant.count);
+      behind = subst (λ (y : List Level). Behind m rows start v y x (c.loop-keys.exhausted + 1)) (sym c.pop.ensures.list)
+          (behind_more m rows start v (listed c.loop-keys.self) w x c.loop-keys.exhausted (c.loop-keys.exhausted + 1) c.keep.result
+          (sym c.is_spent.ensures ∙ c.loop-keys-test.true) refl kept c.loop-keys.invariant.behind);
+    }
+
+pub returns-clause-backs : goal.returns-clause-backs
+returns-clause-backs g c =
+    backed g.B.Bank.meaning (rows_of c.args.rows.now) (listed c.args.self.now) (g.S.Store.view c.args.store.now) (listed c.loop-keys.self) (g.S.Store.view c.loop-keys.store) c.loop-keys.exhausted
+    (sym c.is_spent.ensures ∙ c.loop-keys-test.false) c.loop-keys.invariant.behind

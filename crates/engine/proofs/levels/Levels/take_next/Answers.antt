@@ -1,0 +1,21 @@
+use Rattle.std.proofs.Common.{◌≡◌, ℕ, ◌-◌, ◌<◌, refl, length, get_or, set, ap, ◌∙◌, arith}
+use Rattle.engine.specs.declared.level.LevelRecord.{LevelRecord}
+use Rattle.engine.specs.Levels.{no_record}
+use Rattle.std.proofs.lemmas.List.{get_or_default}
+use Rattle.engine.proofs.Leveled.{levels_tried, record_taken}
+use Rattle.engine.proofs.levels.Levels.take_next.Goals as goal
+
+pub returns-in-Some-clause-list : goal.returns-in-Some-clause-list
+returns-in-Some-clause-list c =
+    let s = c.args.self.now in
+    let xs = s.records.items in
+    let l = c.in-Some.level.now in
+    let d : s.records.len ≡ length s.records.items = s.records.ok.0 in
+    let some : 0 < length s.records.items = omega (arith, d, c.in-Some.ensures.variant.0 refl) in
+    let next : ℕ → LevelRecord = λ x. record { voice = l.voice; left = x } in
+    let read : c.in-Some.level.now ≡ get_or xs (length xs - 1) no_record =
+    c.in-Some.ensures.value ∙ ap (λ (n : ℕ). get_or xs (n - 1) l) d ∙ get_or_default xs (length xs - 1) l no_record (omega arith) in
+    levels_tried s.width s.trail.items xs (set xs (s.records.len - 1) (next (l.left - c.next.result))) some
+    (ap (λ (n : ℕ). set xs (n - 1) (next (l.left - c.next.result))) d
+    ∙ ap (λ (x : ℕ). set xs (length xs - 1) (next x)) c.next.ensures.rest
+    ∙ ap (λ (r : LevelRecord). set xs (length xs - 1) (record_taken r)) read)

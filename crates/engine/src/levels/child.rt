@@ -1,0 +1,35 @@
+// The node that is opened next, and its value taken out of the newest level.
+ghost use Rattle.std.specs.Prelude.{◌≡◌, false, length};
+ghost use Rattle.engine.specs.Levels.{is_spent, next_sets, tried};
+ghost use Rattle.engine.specs.Stacks.{listed};
+
+use crate::levels::Levels;
+use sets::ValueSet;
+
+impl Levels {
+    // Writes the sets of the node that is opened next: the voices' opening sets where there is no level, otherwise those of the newest level, with its voice
+    // fixed to the least value that is left to try.
+    pub(crate) fn read_next(&self, voices: &[ValueSet], sets: &mut [ValueSet])
+        requires voices { length voices.now ≡ self.now.width }
+        requires width { length sets.old ≡ self.now.width }
+        requires lasts { is_spent (listed self.now) ≡ false }
+        ensures { sets.new ≡ next_sets voices.now (listed self.now) }
+    {
+        let Some(level) = self.records.last() else {
+            sets.copy_from_slice(voices);
+            return;
+        };
+        sets.copy_from_slice(self.newest_sets());
+        sets[level.voice] = level.next();
+    }
+
+    // Takes that value out of the newest level, if there is one.
+    pub(crate) fn take_next(&mut self)
+        ensures width { self.new.width ≡ self.old.width }
+        ensures list { listed self.new ≡ tried (listed self.old) }
+    {
+        if let Some(level) = self.records.last_mut() {
+            level.left -= level.next();
+        }
+    }
+}
