@@ -27,6 +27,9 @@ fn front_row<B: Bank>(bytes: &[u8]) -> &[u8]
     &bytes[..length.min(bytes.len())]
 }
 
+// That the search has not begun is asked by each of the three functions that read a record: a struct over the lent table that knew it would have to say in
+// each of them that it lends the same table, which is one clause for another.
+
 // Declares the voice whose record, after its first byte, stands at the front, and answers how long the record is.
 fn read_voice<B: Bank, S: Store>(
     table: &mut Table<B, S>,
