@@ -53,6 +53,7 @@ pub fn give_member(
     ensures value { result ≡ member_answer ticket (length memory.old) }
     ensures after { memory.new ≡ member_memory ticket voice argument memory.old }
 {
+    // not by `map_err`, whose closure would take the ticket, which goes on below
     if let Err(fault) = ticket.check_member(memory.len()) {
         return Err(Declined { ticket, fault });
     }
@@ -72,6 +73,7 @@ pub fn close<B: Bank, S: Store>(
     ensures does { Posts (close_verdict ticket (length memory.now)) B.Bank.meaning S.Store.view table.old (row_in ticket memory.now) (close_answer result) table.new }
     ensures lasts { PostLasts (close_verdict ticket (length memory.now)) B.Bank.meaning S.Store.view table.old (row_in ticket memory.now) (close_answer result) table.new }
 {
+    // as above
     if let Err(fault) = ticket.check_close(memory.len()) {
         return Err(CloseFault::HandedBack(Declined { ticket, fault }));
     }

@@ -19,6 +19,7 @@ fn give_members(ticket: Ticket, memory: &mut [u8], members: &[Member]) -> Result
     ensures value { result ≡ members_answer ticket members.now }
     ensures after { memory.new ≡ members_memory ticket members.now memory.old }
 {
+    // not by `try_fold`, whose closure would hold the memory and take a ticket that has to be spent
     let mut current = ticket;
     for member in members {
         let [voice, _] = member.voice.to_le_bytes();

@@ -43,7 +43,7 @@ pub fn plan<B: Bank, S: Store + Drop>(
 {
     let mut table: Table<B, S> = Table::make(heap, store)?;
     let length = sheet.len().min(MOST_SHEET);
-    let answer = load(&mut table, &sheet[0..length]);
+    let answer = load(&mut table, &sheet[..length]);
     if answer.is_ok() {
         let _ = table.solve(BUDGET);
     }

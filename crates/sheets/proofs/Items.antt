@@ -1,9 +1,9 @@
 -- What stands at the front of bytes, by cases, and what it says of the bytes.
-use Rattle.std.proofs.Common.{◌≡◌, ℕ, ◌+◌, ◌*◌, ◌<◌, ◌≤◌, Bool, true, false, cond, eqb, ltb, List, [], ◌∷◌, length, get_or, take, drop, Some, None, sym, refl, ap, ◌∙◌, subst, inl, inr, arith}
+use Rattle.std.proofs.Common.{◌≡◌, ℕ, ◌+◌, ◌*◌, ◌<◌, ◌≤◌, cond, eqb, ltb, List, [], ◌∷◌, length, get_or, take, drop, sym, refl, ap, ◌∙◌, subst, inl, inr, arith}
 use Rattle.std.proofs.lemmas.List.{length-take, take_all}
-use Rattle.std.proofs.lemmas.Bool.{cases_Bool, cases_lt, cond-true, cond-false, lt-ltb, le-ltb, eqb-true, eqb-false, eq-eqb, ne_eqb, and_from}
+use Rattle.std.proofs.lemmas.Bool.{cases_Bool, cases_lt, cond-true, cond-false, lt-ltb, le-ltb, eqb-true, eqb-false, eq-eqb, ne_eqb}
 use Rattle.rows.specs.Rows.{RowData, Meaning}
-use Rattle.rows.specs.Bytes.{count_byte, head_length, letter_byte, lettered}
+use Rattle.rows.specs.Bytes.{count_byte, head_length, lettered}
 use Rattle.search.specs.Calls.{begun, Judgement, judged}
 use Rattle.search.specs.Calls.Call.{declare, post}
 use Rattle.sheets.specs.declared.fault.Layer.TheVariants.{Sheet}
@@ -13,27 +13,7 @@ use Rattle.sheets.specs.Reading.Item.{last, voice, row, fault}
 
 -- ---- the row at the front
 
-known_body : (k : Bool) (n body : ℕ) → Some body ≡ cond k (Some n) None → (k ≡ true) × (body ≡ n)
-known_body true n body e = (refl, cc)
-known_body false n body e = let z : ◌≡◌ {A = ℕ} 0 1 = cc in absurd (omega arith)
-
-cut_at : (m : Meaning) (bs : List ℕ) (body count : ℕ) → 0 < length bs → Some body ≡ cond (m.known (letter_byte bs)) (Some (m.body_length (letter_byte bs))) None → count ≡ count_byte bs
-    → front_row m bs ≡ take (1 + body + 4 * count) bs
-cut_at m bs body count h e f =
-    let k = known_body (m.known (letter_byte bs)) (m.body_length (letter_byte bs)) body e in
-    let n : head_length m bs + 4 * count_byte bs ≡ 1 + body + 4 * count = omega (arith, k.1, f) in
-    cond-true (lettered m bs) (take (head_length m bs + 4 * count_byte bs) bs) bs (and_from (ltb 0 (length bs)) (m.known (letter_byte bs)) (lt-ltb 0 (length bs) h) k.0)
-    ∙ ap (λ (i : ℕ). take i bs) n
-
-pub front_cut : (m : Meaning) (bs : List ℕ) (body count : ℕ) → 0 < length bs → Some body ≡ cond (m.known (letter_byte bs)) (Some (m.body_length (letter_byte bs))) None → count ≡ count_byte bs
-    → take (1 + body + 4 * count) bs ≡ front_row m bs
-front_cut m bs body count h e f = sym (cut_at m bs body count h e f)
-
-pub front_all : (m : Meaning) (bs : List ℕ) (body count : ℕ) → 0 < length bs → Some body ≡ cond (m.known (letter_byte bs)) (Some (m.body_length (letter_byte bs))) None → count ≡ count_byte bs
-    → length bs ≤ 1 + body + 4 * count → bs ≡ front_row m bs
-front_all m bs body count h e f l = sym (cut_at m bs body count h e f ∙ take_all (1 + body + 4 * count) bs l)
-
--- it is a part from the start
+-- it is a part of the bytes from their start
 pub front_part : (m : Meaning) (bs : List ℕ) → front_row m bs ≡ take (length (front_row m bs)) bs
 front_part m bs =
     elim (cases_Bool (lettered m bs)) [
@@ -82,11 +62,6 @@ module _ (m : Meaning) (voices : List ℕ) (rows : List RowData) where
   at_row b bs e f =
       cond-false (eqb b 0x5A) (end_item bs) (cond (eqb b 0x56) (voice_item m voices rows bs) (row_item m voices rows (b ∷ bs))) (ne_eqb b 0x5A e)
       ∙ cond-false (eqb b 0x56) (voice_item m voices rows bs) (row_item m voices rows (b ∷ bs)) (ne_eqb b 0x56 f)
-
-  -- the same of a slice
-  pub voice_front : (bs : List ℕ) → 0 < length bs → get_or bs 0 0 ≡ 0x56 → item_at m voices rows bs ≡ voice_item m voices rows (drop 1 bs)
-  voice_front [] h e = absurd (omega arith)
-  voice_front (b ∷ bs) h e = at_voice b bs e
 
 -- ---- from an item back to the bytes
 

@@ -1,11 +1,10 @@
 -- Numbers in bytes, low byte first.
-use Rattle.std.proofs.Common.{◌≡◌, ℕ, zero, suc, ◌+◌, ◌*◌, ◌/◌, ◌%◌, ◌^◌, ◌<◌, ◌≤◌, List, [], ◌∷◌, length, get_or, take, refl, ap, ◌∙◌, pow-suc, arith}
+use Rattle.std.proofs.Common.{◌≡◌, ℕ, zero, suc, ◌+◌, ◌*◌, ◌/◌, ◌%◌, ◌^◌, ◌<◌, ◌≤◌, List, [], ◌∷◌, length, take, refl, ap, ◌∙◌, pow-suc, arith, w64}
+use Rattle.std.specs.Int.{from_le_bytes}
 use Rattle.rows.specs.Bytes.{Bytes}
 use Rattle.sheets.specs.Sheets.{low_first, number_in}
 
-pub eight_bytes : (bs : List ℕ) → 8 ≤ length bs
-    → number_in (take 8 bs)
-    ≡ get_or bs 0 0 + get_or bs 1 0 * 256 + get_or bs 2 0 * 65536 + get_or bs 3 0 * 16777216 + get_or bs 4 0 * 4294967296 + get_or bs 5 0 * 1099511627776 + get_or bs 6 0 * 281474976710656 + get_or bs 7 0 * 72057594037927936
+pub eight_bytes : (bs : List ℕ) → 8 ≤ length bs → number_in (take 8 bs) ≡ from_le_bytes w64 (take 8 bs)
 eight_bytes [] h = absurd (omega arith)
 eight_bytes (a ∷ []) h = absurd (omega arith)
 eight_bytes (a ∷ b ∷ []) h = absurd (omega arith)

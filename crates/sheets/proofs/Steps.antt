@@ -1,8 +1,8 @@
 -- One record read by the code, and the records read so far.
-use Rattle.std.proofs.Common.{◌≡◌, ℕ, zero, suc, ◌+◌, ◌-◌, ◌<◌, ◌≤◌, true, false, ltb, List, [], ◌∷◌, ◌++◌, length, get_or, take, drop, is_err, Some, None, Ok, Err, Option, Result, sym, refl, ap, ◌∙◌, subst, arith}
-use Rattle.std.proofs.lemmas.List.{length-drop, length-take, drop-drop, take_rest}
+use Rattle.std.proofs.Common.{◌≡◌, ℕ, zero, suc, ◌+◌, ◌-◌, ◌<◌, ◌≤◌, true, false, ltb, List, [], ◌∷◌, ◌++◌, length, get_or, drop, is_err, Some, None, Ok, Err, Option, Result, sym, refl, ap, ◌∙◌, subst, arith}
+use Rattle.std.proofs.lemmas.List.{length-drop, length-take, drop-drop}
 use Rattle.std.proofs.lemmas.Bool.{and_parts, not-false, ltb-true}
-use Rattle.rows.specs.Rows.{RowData, Meaning}
+use Rattle.rows.specs.Rows.{Meaning}
 use Rattle.rows.specs.Bytes.{lettered, decode}
 use Rattle.stores.specs.Stores.{View}
 use Rattle.search.specs.Calls.{Table, begun, empty, Answer, Judgement, reasons, judged, Does}
@@ -14,7 +14,7 @@ use Rattle.planner.specs.declared.refusal.Refusal.{Refusal}
 use Rattle.planner.specs.declared.refusal.Refusal.TheVariants as refusal
 use Rattle.planner.specs.Refusals.{refusal_number}
 use Rattle.sheets.specs.declared.fault.Cause.{Cause}
-use Rattle.sheets.specs.declared.fault.Cause.TheVariants.{NoRecord, LateVoice, Trailing, CutVoice, Declined}
+use Rattle.sheets.specs.declared.fault.Cause.TheVariants.{Declined}
 use Rattle.sheets.specs.declared.fault.SheetFault.{SheetFault}
 use Rattle.sheets.specs.Causes.{layer_of, refusal_layer, cause_number, cause_layer, cause_offset}
 use Rattle.sheets.specs.Reading.{Item, if_passes, item_at, Outcome, read_from, read_on, read_sheet}
@@ -80,13 +80,6 @@ post_declined m t u v w bs n (Does.declines c n' j) = (j, refl, refl)
 pub at_item : (m : Meaning) (t u : Table) (w : View) (i i' : Item) (r : Result (Option ℕ) Cause) → i' ≡ i → ItemRead m t i r u w → ItemRead m t i' r u w
 at_item m t u w i i' r e h = subst (λ (x : Item). ItemRead m t x r u w) (sym e) h
 
--- the bytes from the place `at` on, as a slice has them
-pub at_rest : (m : Meaning) (t u : Table) (w : View) (bs : List ℕ) (at : ℕ) (r : Result (Option ℕ) Cause)
-    → ItemRead m t (item_at m t.voices t.rows (take (length bs - at) (drop at bs))) r u w → ItemRead m t (item_at m t.voices t.rows (drop at bs)) r u w
-at_rest m t u w bs at r h =
-    let rest = take (length bs - at) (drop at bs) in
-    at_item m t u w (item_at m t.voices t.rows rest) (item_at m t.voices t.rows (drop at bs)) r (ap (item_at m t.voices t.rows) (sym (take_rest bs at))) h
-
 pub voice_declared : (m : Meaning) (t u : Table) (v w : View) (s : ℕ) → Does m t v (declare s) Answer.done u w
     → ItemRead m t (if_passes (judged m (begun t.voices t.rows) (declare s)) (voice s)) (Ok (Some 9)) (unlost u) w
 voice_declared m t u v w s D =
@@ -108,24 +101,6 @@ pub row_declined : (m : Meaning) (t u : Table) (v w : View) (bs : List ℕ) (r :
     → Does m t v (post bs) (Answer.refused (refusal_number refusal)) u w → ItemRead m t (if_passes (judged m (begun t.voices t.rows) (post bs)) (row bs)) r (unlost u) w
 row_declined m t u v w bs r refusal U e D =
     turned_down m t u v w (judged m t (post bs)) (row bs) r refusal U e (post_declined m t u v w bs (refusal_number refusal) D)
-
--- ---- a fault's place
-
-offset_small : (c : Cause) → cause_offset c ≤ 1
-offset_small NoRecord = omega arith
-offset_small LateVoice = omega arith
-offset_small Trailing = omega arith
-offset_small CutVoice = omega arith
-offset_small (Declined refusal) = omega arith
-
-offset_inside : (m : Meaning) (voices : List ℕ) (rows : List RowData) (bs : List ℕ) (c : Cause) → fails (cause_number c) (cause_offset c) (cause_layer c) ≡ item_step (item_at m voices rows bs)
-    → cause_offset c ≤ length bs
-offset_inside m voices rows [] c e = let z : cause_offset c ≡ 0 = cc in omega (arith, z)
-offset_inside m voices rows (b ∷ bs) c e = omega (arith, offset_small c)
-
-pub place_inside : (m : Meaning) (t u : Table) (w : View) (bs : List ℕ) (at : ℕ) (c : Cause) → at ≤ length bs → ItemRead m t (item_at m t.voices t.rows (drop at bs)) (Err c) u w
-    → at + cause_offset c ≤ length bs
-place_inside m t u w bs at c l h = omega (arith, l, offset_inside m t.voices t.rows (drop at bs) c h.step, length-drop at bs)
 
 -- ---- the records so far
 
@@ -236,6 +211,41 @@ module _ (m : Meaning) (bs : List ℕ) (t : Table) (v : View) (at : ℕ) (S : So
             table = subst (λ (x : Outcome). Filled x u) rest.2 tt;
             store = h.store;
           }
+
+-- ---- the same, with the rest of the bytes at hand
+
+pub record Left (m : Meaning) (bs : List ℕ) (t : Table) (v : View) (rest : List ℕ) : Type 0 where
+  pub so_far : SoFar m bs t v (length bs - length rest)
+  pub rest-is : rest ≡ drop (length bs - length rest) bs
+
+pub all_left : (m : Meaning) (bs : List ℕ) (t : Table) (v : View) → t ≡ empty → v.held ≡ [] → Left m bs t v bs
+all_left m bs t v e h =
+    let none : 0 ≡ length bs - length bs = omega arith in
+    record { so_far = subst (SoFar m bs t v) none (none_so_far m bs t v e h); rest-is = ap (λ (n : ℕ). drop n bs) none }
+
+module _ {m : Meaning} {bs : List ℕ} {t : Table} {v : View} {rest : List ℕ} (L : Left m bs t v rest) where
+  pub left_inside : length rest ≤ length bs
+  left_inside = omega (arith, ap length L.rest-is, length-drop (length bs - length rest) bs)
+
+  pub at_left : {u : Table} {w : View} {r s : Result (Option ℕ) Cause} → r ≡ s → ItemRead m t (item_at m t.voices t.rows rest) r u w
+      → ItemRead m t (item_at m t.voices t.rows (drop (length bs - length rest) bs)) s u w
+  at_left {u} {w} {r} {s} e h =
+      let i = item_at m t.voices t.rows (drop (length bs - length rest) bs) in
+      subst (λ (x : Result (Option ℕ) Cause). ItemRead m t i x u w) e (at_item m t u w (item_at m t.voices t.rows rest) i r (ap (item_at m t.voices t.rows) (sym L.rest-is)) h)
+
+  -- one record further
+  pub more_left : {u : Table} {w : View} {r : Result (Option ℕ) Cause} (n : ℕ) → r ≡ Ok (Some n) → ItemRead m t (item_at m t.voices t.rows rest) r u w
+      → (0 < n) × (n ≤ length rest) × Left m bs u w (drop n rest)
+  more_left {u} {w} n e h =
+      let l = further m bs t v (length bs - length rest) L.so_far n u w (at_left e h) in
+      let place : length bs - length rest + n ≡ length bs - length (drop n rest) = omega (arith, length-drop n rest, l.so_far.inside, left_inside) in (
+        l.some,
+        omega (arith, l.so_far.inside, left_inside),
+        record {
+          so_far = subst (SoFar m bs u w) place l.so_far;
+          rest-is = ap (drop n) L.rest-is ∙ drop-drop n (length bs - length rest) bs ∙ ap (λ (k : ℕ). drop k bs) place;
+        },
+      )
 
 -- ---- a Load's end
 

@@ -16,24 +16,19 @@ use stores::store::Store;
 fn front_row<B: Bank>(bytes: &[u8]) -> &[u8]
     ensures { result.now ≡ front_row B.Bank.meaning bytes.now }
 {
-    if bytes.is_empty() {
-        return bytes;
-    }
-    let Some(body) = B::body_length(bytes[0]) else {
+    let [letter, ..] = bytes else {
         return bytes;
     };
-    let count = if bytes.len() > 1 {
-        usize::from(bytes[1])
-    } else {
-        0
+    let Some(body) = B::body_length(*letter) else {
+        return bytes;
     };
+    let count = usize::from(bytes.get(1).copied().unwrap_or(0));
     let length = 1 + body + 4 * count;
-    if length < bytes.len() {
-        &bytes[..length]
-    } else {
-        bytes
-    }
+    &bytes[..length.min(bytes.len())]
 }
+
+// That the search has not begun is asked by each of the three functions that read a record: a struct over the lent table that knew it would have to say in
+// each of them that it lends the same table, which is one clause for another.
 
 // Declares the voice whose record, after its first byte, stands at the front, and answers how long the record is.
 fn read_voice<B: Bank, S: Store>(
@@ -46,10 +41,10 @@ fn read_voice<B: Bank, S: Store>(
     if !table.rows().is_empty() {
         return Err(Cause::LateVoice);
     }
-    let [a, b, c, d, e, f, g, h, ..] = rest else {
+    let Some(set) = rest.first_chunk::<8>() else {
         return Err(Cause::CutVoice);
     };
-    table.declare(u64::from_le_bytes([*a, *b, *c, *d, *e, *f, *g, *h]))?;
+    table.declare(u64::from_le_bytes(*set))?;
     Ok(Some(9))
 }
 
@@ -74,20 +69,12 @@ fn read_record<B: Bank, S: Store>(
     requires { Unsearched (model table.old 0) (store_in S.Store.view table.old) }
     ensures { ItemRead B.Bank.meaning (model table.old 0) (item_at B.Bank.meaning (model table.old 0).voices (model table.old 0).rows bytes.now) result (model table.new 0) (store_in S.Store.view table.new) }
 {
-    let [mark, rest @ ..] = bytes else {
-        return Err(Cause::NoRecord);
-    };
-    if *mark == END_MARK {
-        return if rest.is_empty() {
-            Ok(None)
-        } else {
-            Err(Cause::Trailing)
-        };
-    }
-    if *mark == VOICE_MARK {
-        read_voice(table, rest)
-    } else {
-        read_row(table, bytes)
+    match bytes {
+        [] => Err(Cause::NoRecord),
+        [END_MARK] => Ok(None),
+        [END_MARK, ..] => Err(Cause::Trailing),
+        [VOICE_MARK, rest @ ..] => read_voice(table, rest),
+        _ => read_row(table, bytes),
     }
 }
 
@@ -97,15 +84,13 @@ fn read_records<B: Bank, S: Store>(table: &mut Table<B, S>, bytes: &[u8]) -> Res
     requires holds { (store_in S.Store.view table.old).held ≡ [] }
     ensures { RecordsRead (read_sheet B.Bank.meaning bytes.now) result (model table.new 0) (store_in S.Store.view table.new) }
 {
-    let mut at = 0;
+    let mut rest = bytes;
     loop {
-        match read_record(table, &bytes[at..]) {
-            Ok(read) => match read {
-                Some(length) => at += length,
-                None => return Ok(()),
-            },
+        match read_record(table, rest) {
+            Ok(Some(length)) => rest = &rest[length..],
+            Ok(None) => return Ok(()),
             Err(cause) => {
-                let place = at + cause.offset();
+                let place = bytes.len() - rest.len() + cause.offset();
                 return Err(SheetFault { cause, place });
             }
         }

@@ -1,4 +1,4 @@
-use Rattle.std.proofs.Common.{◌≡◌, ◌-◌, min, [], length, take, arith, refl, sym, ap, ◌∙◌, subst}
+use Rattle.std.proofs.Common.{◌≡◌, min, [], length, take, arith, refl, sym, ap, ◌∙◌, subst}
 use Rattle.std.proofs.lemmas.Result.{IfOk-weaker}
 use Rattle.planner.specs.Shown.{model, store_in, solve_answer, found_in}
 use Rattle.sheets.specs.Loading.{load_answer}
@@ -13,7 +13,7 @@ pub returns : goal.returns
 returns g c =
     let m = g.B.Bank.meaning in
     let view = g.S.Store.view in
-    let n = c.min-length.result - 0 in
+    let n = c.min-length.result in
     let few : n ≡ min (length c.args.sheet.now) 20000 = omega (arith, c.min-length.ensures) in
     let sheet = take n c.args.sheet.now in
     let r = c.load-answer.result in

@@ -1,74 +1,41 @@
-use Rattle.std.proofs.Common.{ℕ, ◌+◌, ◌-◌, ◌^◌, ◌<◌, length, take, drop, Some, None, Ok, Err, Option, ap, subst, arith, rules}
+use Rattle.std.proofs.Common.{◌+◌, ◌-◌, length, Ok, sym, ap, ◌∙◌, subst, arith, rules}
+use Rattle.std.proofs.lemmas.List.{take_rest, length-drop}
 use Rattle.planner.specs.Shown.{model, store_in}
-use Rattle.sheets.specs.Reading.{item_at}
-use Rattle.sheets.specs.Loading.{ItemRead}
-use Rattle.sheets.proofs.Steps.{at_rest, place_inside, Longer, none_so_far, further, ended, faulted}
-use Rattle.sheets.proofs.load.read_records.Given.{Over}
+use Rattle.sheets.proofs.Steps.{Left, all_left, at_left, more_left, ended, faulted}
 use Rattle.sheets.proofs.load.read_records.Goals as goal
 
-pub loop-read-init : goal.loop-read-init
-loop-read-init g c = none_so_far g.B.Bank.meaning c.args.bytes.now (model c.args.table.now 0) (store_in g.S.Store.view c.args.table.now) c.requires.none c.requires.holds
+pub loop-length-init : goal.loop-length-init
+loop-length-init g c = all_left g.B.Bank.meaning c.args.bytes.now (model c.args.table.now 0) (store_in g.S.Store.view c.args.table.now) c.requires.none c.requires.holds
 
-pub slice_bounds-read_record-count : goal.slice_bounds-read_record-count
-slice_bounds-read_record-count g c = c.loop-read.invariant.inside
+pub slice_bounds-rest-count : goal.slice_bounds-rest-count
+slice_bounds-rest-count g c = (more_left c.loop-length.invariant c.in-Ok-Some.length (c.in-Ok-Some.is ∙ ap Ok c.in-Ok-Some.field-0-is) c.read_record.ensures).1
 
-pub read_record-requires : goal.read_record-requires
-read_record-requires g c = c.loop-read.invariant.unsearched
+pub slice_bounds-rest-start : goal.slice_bounds-rest-start
+slice_bounds-rest-start g c = let inside = (more_left c.loop-length.invariant c.in-Ok-Some.length (c.in-Ok-Some.is ∙ ap Ok c.in-Ok-Some.field-0-is) c.read_record.ensures).1 in search rules
 
--- one record more
-one_more : (g : Over) (c : goal.In-Some g)
-    → Longer g.B.Bank.meaning c.args.bytes.now (model c.read_record.new.table 0) (store_in g.S.Store.view c.read_record.new.table) c.loop-read.at c.in-Some.length
-one_more g c =
-    let m = g.B.Bank.meaning in
+pub loop-length-smaller : goal.loop-length-smaller
+loop-length-smaller g c =
+    let more = more_left c.loop-length.invariant c.in-Ok-Some.length (c.in-Ok-Some.is ∙ ap Ok c.in-Ok-Some.field-0-is) c.read_record.ensures in
+    omega (arith, more.0, more.1, ap length (take_rest c.loop-length.rest.now c.in-Ok-Some.length), length-drop c.in-Ok-Some.length c.loop-length.rest.now)
+
+pub loop-length-preserved : goal.loop-length-preserved
+loop-length-preserved g c =
+    subst (Left g.B.Bank.meaning c.args.bytes.now (model c.read_record.new.table 0) (store_in g.S.Store.view c.read_record.new.table))
+    (sym (take_rest c.loop-length.rest.now c.in-Ok-Some.length)) (more_left c.loop-length.invariant c.in-Ok-Some.length (c.in-Ok-Some.is ∙ ap Ok c.in-Ok-Some.field-0-is) c.read_record.ensures).2
+
+pub returns-in-Ok-None : goal.returns-in-Ok-None
+returns-in-Ok-None g c =
     let bs = c.args.bytes.now in
-    let t = c.loop-read.table in
-    let u = c.read_record.new.table in
-    let w = store_in g.S.Store.view u in
-    further m bs (model t 0) (store_in g.S.Store.view t) c.loop-read.at c.loop-read.invariant c.in-Some.length (model u 0) w
-    (at_rest m (model t 0) (model u 0) w bs c.loop-read.at (Ok (Some c.in-Some.length)) (subst (λ (x : Option ℕ). ItemRead m (model t 0) (item_at m (model t 0).voices (model t 0).rows (take (length bs - c.loop-read.at) (drop c.loop-read.at bs))) (Ok x) (model u 0) w) c.in-Some.is c.in-Ok.ensures))
-
-pub overflow_add-at : goal.overflow_add-at
-overflow_add-at g c =
-    let l = one_more g c in
-    let fits : length c.args.bytes.now < 2 ^ 64 = search rules in
-    record { fits = omega (arith, l.so_far.inside) }
-
-pub loop-read-smaller : goal.loop-read-smaller
-loop-read-smaller g c = let l = one_more g c in omega (arith, l.some, l.so_far.inside)
-
-pub loop-read-preserved : goal.loop-read-preserved
-loop-read-preserved g c = (one_more g c).so_far
-
-pub returns-in-None : goal.returns-in-None
-returns-in-None g c =
-    let m = g.B.Bank.meaning in
-    let bs = c.args.bytes.now in
-    let t = c.loop-read.table in
-    let u = c.read_record.new.table in
-    let w = store_in g.S.Store.view u in
-    ended m bs (model t 0) (store_in g.S.Store.view t) c.loop-read.at c.loop-read.invariant (model u 0) w
-    (at_rest m (model t 0) (model u 0) w bs c.loop-read.at (Ok None) (subst (λ (x : Option ℕ). ItemRead m (model t 0) (item_at m (model t 0).voices (model t 0).rows (take (length bs - c.loop-read.at) (drop c.loop-read.at bs))) (Ok x) (model u 0) w) c.in-None.is c.in-Ok.ensures))
-
-pub overflow_add-place : goal.overflow_add-place
-overflow_add-place g c =
-    let m = g.B.Bank.meaning in
-    let bs = c.args.bytes.now in
-    let t = c.loop-read.table in
-    let u = c.read_record.new.table in
-    let w = store_in g.S.Store.view u in
-    let at = c.loop-read.at in
-    let fits : length bs < 2 ^ 64 = search rules in
-    let inside = place_inside m (model t 0) (model u 0) w bs at c.in-Err.cause c.loop-read.invariant.inside (at_rest m (model t 0) (model u 0) w bs at (Err c.in-Err.cause) c.in-Err.ensures) in
-    record { fits = omega (arith, inside, c.offset.ensures) }
+    let t = c.loop-length.table in
+    let L = c.loop-length.invariant in
+    ended g.B.Bank.meaning bs (model t 0) (store_in g.S.Store.view t) (length bs - length c.loop-length.rest.now) L.so_far
+    (model c.read_record.new.table 0) (store_in g.S.Store.view c.read_record.new.table) (at_left L (c.in-Ok-None.is ∙ ap Ok c.in-Ok-None.field-0-is) c.read_record.ensures)
 
 pub returns-in-Err : goal.returns-in-Err
 returns-in-Err g c =
-    let m = g.B.Bank.meaning in
     let bs = c.args.bytes.now in
-    let t = c.loop-read.table in
-    let u = c.read_record.new.table in
-    let w = store_in g.S.Store.view u in
-    let at = c.loop-read.at in
-    faulted m bs (model t 0) (store_in g.S.Store.view t) at c.loop-read.invariant c.in-Err.cause (at + c.offset.result) (model u 0) w
-    (ap (λ (n : ℕ). at + n) c.offset.ensures)
-    (at_rest m (model t 0) (model u 0) w bs at (Err c.in-Err.cause) c.in-Err.ensures)
+    let t = c.loop-length.table in
+    let L = c.loop-length.invariant in
+    let at = length bs - length c.loop-length.rest.now in
+    faulted g.B.Bank.meaning bs (model t 0) (store_in g.S.Store.view t) at L.so_far c.in-Err.cause (at + c.offset.result)
+    (model c.read_record.new.table 0) (store_in g.S.Store.view c.read_record.new.table) (ap (λ n. at + n) c.offset.ensures) (at_left L c.in-Err.is c.read_record.ensures)

@@ -1,4 +1,5 @@
-use Rattle.std.proofs.Common.{◌≡◌, ◌<◌, ◌≤◌, length, take, Some, Ok, Err, vec_items, sym, refl, ap, ◌∙◌, arith, ltb-false, ltb-true}
+use Rattle.std.proofs.Common.{◌≡◌, ◌<◌, ◌≤◌, length, take, Some, Ok, Err, vec_items, sym, refl, ap, ◌∙◌, w64}
+use Rattle.std.specs.Int.{from_le_bytes}
 use Rattle.std.proofs.lemmas.List.{length-map}
 use Rattle.std.proofs.lemmas.Result.{err_from_is_err_and}
 use Rattle.std.proofs.lemmas.Bool.{eqb-true, eqb-false}
@@ -32,7 +33,7 @@ returns-in_default g c =
     let t = c.args.table.now in
     let bs = c.args.rest.now in
     let none : length (rows_in t) ≡ 0 = sym (ap length c.rows.ensures) ∙ length-map c.rows.result.now row_of ∙ eqb-true (length c.rows.result.now) 0 (sym c.if-not-is_empty.ensures) in
-    let short : length bs < 8 = omega (arith, ltb-true, ltb-false) in
+    let short : length bs < 8 = c.in_default.ensures.cases in
     at_item m (model t 0) (model t 0) (store_in g.S.Store.view t) (fault 6 0 Sheet) (voice_item m (vec_items t.voices) (rows_in t) bs) (Err CutVoice)
     (cut_voice m (vec_items t.voices) (rows_in t) bs none short)
     (record { step = refl; table = c.requires.begins; store = c.requires.holds })
@@ -51,8 +52,8 @@ returns-in_err-declare g c =
     let p = err_from_is_err_and r c.from_residual.ensures.1 in
     let d = c.in_err-declare.ensures.does in
     let none : length (rows_in t) ≡ 0 = sym (ap length c.rows.ensures) ∙ length-map c.rows.result.now row_of ∙ eqb-true (length c.rows.result.now) 0 (sym c.if-not-is_empty.ensures) in
-    let long : 8 ≤ length bs = omega (arith, ltb-true, ltb-false) in
-    let number : number_in (take 8 bs) ≡ s = eight_bytes bs long ∙ sym c.from_le_bytes.ensures in
+    let long : 8 ≤ length bs = c.in-Some.ensures.cases.enough in
+    let number : number_in (take 8 bs) ≡ s = eight_bytes bs long ∙ ap (from_le_bytes w64) (sym c.in-Some.ensures.cases.same) ∙ sym c.from_le_bytes.ensures in
     at_item m (model t 0) (model u 0) w (if_passes (judged m (begun (vec_items t.voices) (rows_in t)) (declare s)) (voice s)) (voice_item m (vec_items t.voices) (rows_in t) bs) r
     (whole_voice m (vec_items t.voices) (rows_in t) bs s none long number)
     (voice_declined m (model t 0) (model u (d.lost 0)) v w s r refusal c.requires (p.1 ∙ ap Err p.2) (d.does 0))
@@ -68,8 +69,8 @@ returns g c =
     let s = c.from_le_bytes.result in
     let d = c.in_ok-declare.ensures.does in
     let none : length (rows_in t) ≡ 0 = sym (ap length c.rows.ensures) ∙ length-map c.rows.result.now row_of ∙ eqb-true (length c.rows.result.now) 0 (sym c.if-not-is_empty.ensures) in
-    let long : 8 ≤ length bs = omega (arith, ltb-true, ltb-false) in
-    let number : number_in (take 8 bs) ≡ s = eight_bytes bs long ∙ sym c.from_le_bytes.ensures in
+    let long : 8 ≤ length bs = c.in-Some.ensures.cases.enough in
+    let number : number_in (take 8 bs) ≡ s = eight_bytes bs long ∙ ap (from_le_bytes w64) (sym c.in-Some.ensures.cases.same) ∙ sym c.from_le_bytes.ensures in
     at_item m (model t 0) (model u 0) w (if_passes (judged m (begun (vec_items t.voices) (rows_in t)) (declare s)) (voice s)) (voice_item m (vec_items t.voices) (rows_in t) bs) (Ok (Some 9))
     (whole_voice m (vec_items t.voices) (rows_in t) bs s none long number)
     (voice_declared m (model t 0) (model u (d.lost 0)) v w s (d.does 0))
