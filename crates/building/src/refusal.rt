@@ -11,7 +11,7 @@ use planner::refusal::Refusal;
 use std::fmt;
 
 // A step of building declines, or Post does.
-#[derive(Clone, Copy)]
+#[derive(Clone, Copy, Debug, PartialEq, Eq)]
 pub enum BuildRefusal {
     Building(BuildFault),
     Posting(Refusal),

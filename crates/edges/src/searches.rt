@@ -39,8 +39,14 @@ fn solved<S: Store + Drop>(
 
 #[test]
 fn three_voices(rt: HostRuntime) -> Result<(), Fail> {
-    assert_eq!(rt; solved(&rt, Bare, &[6, 6, 6], &THREE, &[9])?, (Ok(Outcome::None), 3, 1));
-    assert_eq!(rt; solved(&rt, Bare, &[6, 6, 6], &THREE, &[2])?, (Ok(Outcome::Stopped), 2, 0));
+    assert_eq!(rt;
+        solved(&rt, Bare, &[6, 6, 6], &THREE, &[9])?,
+        (Ok(Outcome::None), 3, 1)
+    );
+    assert_eq!(rt;
+        solved(&rt, Bare, &[6, 6, 6], &THREE, &[2])?,
+        (Ok(Outcome::Stopped), 2, 0)
+    );
     assert_eq!(rt;
         solved(&rt, Bare, &[6, 6, 6], &THREE, &[2, 1])?,
         (Ok(Outcome::None), 3, 1)
@@ -60,12 +66,18 @@ fn five_voices(rt: HostRuntime) -> Result<(), Fail> {
         solved(&rt, Shelf::new(&mut words), &opening, &FIVE, &[9])?,
         (Ok(Outcome::None), 5, 2)
     );
-    assert_eq!(rt; solved(&rt, Bare, &opening, &FIVE, &[9])?, (Ok(Outcome::None), 7, 3));
+    assert_eq!(rt;
+        solved(&rt, Bare, &opening, &FIVE, &[9])?,
+        (Ok(Outcome::None), 7, 3)
+    );
     Ok(())
 }
 
 #[test]
 fn no_voices(rt: HostRuntime) -> Result<(), Fail> {
-    assert_eq!(rt; solved(&rt, Bare, &[], &THREE, &[1])?, (Ok(Outcome::Found), 1, 0));
+    assert_eq!(rt;
+        solved(&rt, Bare, &[], &THREE, &[1])?,
+        (Ok(Outcome::Found), 1, 0)
+    );
     Ok(())
 }

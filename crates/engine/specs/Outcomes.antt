@@ -4,7 +4,7 @@ use Rattle.engine.specs.declared.outcome.Outcome.{Outcome}
 use Rattle.engine.specs.declared.outcome.Outcome.TheVariants.{Stopped, Found, None}
 
 -- as a report writes it
-abbrev pub outcome_text : Outcome → List ℕ
-outcome_text Stopped = codes "stopped"
-outcome_text Found = codes "found"
-outcome_text None = codes "none"
+abbrev pub outcome_name : Outcome → List ℕ
+outcome_name Stopped = codes "stopped"
+outcome_name Found = codes "found"
+outcome_name None = codes "none"

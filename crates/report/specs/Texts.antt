@@ -2,7 +2,7 @@
 use Rattle.std.specs.Prelude.{ℕ, suc, List, [], ◌∷◌, ◌++◌, codes, decimal}
 use Rattle.search.specs.Calls.{Table, result}
 use Rattle.engine.specs.declared.outcome.Outcome.{Outcome}
-use Rattle.engine.specs.declared.outcome.Outcome.TheVariants.{Stopped, Found, None}
+use Rattle.engine.specs.Outcomes.{outcome_name}
 use Rattle.engine.specs.Searches.{outcome_of}
 use Rattle.sheets.specs.declared.fault.Layer.{Layer}
 use Rattle.sheets.specs.Causes.{layer_name}
@@ -21,11 +21,6 @@ refused_line number place layer =
     codes "refused " ++ (decimal number ++ (codes " at " ++ (decimal place ++ (codes " in " ++ (layer_name layer ++ line_end)))))
 
 -- ---- a table
-
-abbrev pub outcome_name : Outcome → List ℕ
-outcome_name Stopped = codes "stopped"
-outcome_name Found = codes "found"
-outcome_name None = codes "none"
 
 abbrev pub outcome_line : Outcome → List ℕ
 outcome_line o = outcome_name o ++ line_end

@@ -2,21 +2,11 @@
 ghost use Rattle.std.specs.Prelude.{◌≡◌};
 ghost use Rattle.writing.specs.Written.{Wrote};
 ghost use Rattle.sheets.specs.Causes.{cause_number, cause_layer};
-ghost use Rattle.report.specs.Texts.{line_end, refused_line, outcome_name, outcome_line, count_line, value_line, value_lines};
+ghost use Rattle.report.specs.Texts.{line_end, refused_line, outcome_line, count_line, value_line, value_lines};
 
 use engine::outcome::Outcome;
 use sheets::fault::SheetFault;
 use writing::writer::Writer;
-
-fn outcome_name(outcome: Outcome) -> &'static [u8]
-    ensures { result.now ≡ outcome_name outcome }
-{
-    match outcome {
-        Outcome::Stopped => b"stopped",
-        Outcome::Found => b"found",
-        Outcome::None => b"none",
-    }
-}
 
 // The end of a line.
 fn put_end(writer: &mut Writer)
@@ -42,7 +32,7 @@ pub(crate) fn put_refusal(writer: &mut Writer, fault: SheetFault)
 pub(crate) fn put_outcome(writer: &mut Writer, outcome: Outcome)
     ensures { Wrote (outcome_line outcome) writer.old writer.new }
 {
-    writer.put(outcome_name(outcome));
+    writer.put(outcome.name().as_bytes());
     put_end(writer);
 }
 

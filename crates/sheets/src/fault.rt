@@ -36,7 +36,7 @@ impl fmt::Display for Layer {
 }
 
 // What is wrong with a record.
-#[derive(Clone, Copy)]
+#[derive(Clone, Copy, Debug, PartialEq, Eq)]
 pub enum Cause {
     // the bytes end where a record should begin
     NoRecord,
@@ -104,7 +104,7 @@ impl From<Refusal> for Cause {
 }
 
 // A fault of a sheet: its cause and its place, in bytes from the sheet's first.
-#[derive(Clone, Copy)]
+#[derive(Clone, Copy, Debug, PartialEq, Eq)]
 pub struct SheetFault {
     pub cause: Cause,
     pub place: usize,
