@@ -73,7 +73,7 @@ pub fn close<B: Bank, S: Store>(
     ensures does { Posts (close_verdict ticket (length memory.now)) B.Bank.meaning S.Store.view table.old (row_in ticket memory.now) (close_answer result) table.new }
     ensures lasts { PostLasts (close_verdict ticket (length memory.now)) B.Bank.meaning S.Store.view table.old (row_in ticket memory.now) (close_answer result) table.new }
 {
-    // as above
+    // no `map_err`, as in give_member
     if let Err(fault) = ticket.check_close(memory.len()) {
         return Err(CloseFault::HandedBack(Declined { ticket, fault }));
     }

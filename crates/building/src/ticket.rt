@@ -60,7 +60,7 @@ impl Ticket {
         usize::from(self.head) + 4 * usize::from(self.given)
     }
 
-    // Whether a member may be given, in memory of this length.
+    // Whether a member may be given, in memory of this length. (And below, whether the row may be closed: a closure for the one test that differs would be no plainer.)
     pub(crate) fn check_member(&self, room: usize) -> Result<(), BuildFault>
         ensures { result ≡ member_verdict self.now room }
     {

@@ -38,7 +38,7 @@ fn value_of(m: Member) -> u32
     u32::from(m.argument.unsigned_abs())
 }
 
-// What stands for an entry where there is none: no value is as great.
+// What stands for an entry where there is none: no value is as great. (A number: it is what the trace has then.)
 const NO_ENTRY: u32 = 64;
 
 // The entry at a place.
@@ -66,7 +66,7 @@ fn index_values(entries: &[Member], results: ValueSet) -> ValueSet
     ensures { result ≡ mask 64 (λ i. nat_lt i (length entries.now) && has results (entry entries.now i)) }
 {
     let mut indices = 0;
-    // the set of the place at hand; empty from place 64 on
+    // the set of the place at hand, which moves along with it: a place itself may be more than a shift can take; empty from place 64 on
     let mut here = 1;
     for m in entries {
         if contains(results, value_of(*m)) {
@@ -82,7 +82,7 @@ fn result_values(entries: &[Member], indices: ValueSet) -> ValueSet
     ensures { result ≡ mask 64 (reached entries.now (has indices)) }
 {
     let mut results = 0;
-    // the indices from the place at hand on, counted from there
+    // the indices from the place at hand on, counted from there, for the same reason
     let mut left = indices;
     for m in entries {
         if contains(left, 0) {

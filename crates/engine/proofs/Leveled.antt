@@ -30,15 +30,6 @@ levels_some n trail records h = let p : length records ≡ suc (length records -
 pub below_some : (n : ℕ) (trail : List ℕ) (records : List LevelRecord) → 0 < length records → below (levels_at n trail records) ≡ (get_or records (length records - 1) no_record).voice + 1
 below_some n trail records h = ap below (levels_some n trail records h) ∙ omega arith
 
-pub below_none : (n : ℕ) (trail : List ℕ) (records : List LevelRecord) → length records ≡ 0 → below (levels_at n trail records) ≡ 0
-below_none n trail records e = ap below (levels_none n trail records e)
-
-pub spent_some : (n : ℕ) (trail : List ℕ) (records : List LevelRecord) → 0 < length records → is_spent (levels_at n trail records) ≡ eqb (get_or records (length records - 1) no_record).left 0
-spent_some n trail records h = ap is_spent (levels_some n trail records h)
-
-pub spent_none : (n : ℕ) (trail : List ℕ) (records : List LevelRecord) → length records ≡ 0 → is_spent (levels_at n trail records) ≡ false
-spent_none n trail records e = ap is_spent (levels_none n trail records e)
-
 -- there are no more levels than voices below the first that they leave open
 pub deep_below : (n : ℕ) (trail : List ℕ) (records : List LevelRecord) → Voiced n records → length records ≤ below (levels_at n trail records)
 deep_below n trail records v = ⊎_elim
@@ -159,19 +150,3 @@ levels_tried n trail records after h t =
     ∙ ap₂ (λ (a : Level) (b : List Level). a ∷ b) (ap (λ (y : LevelRecord). level (take n (drop ((length records - 1) * n) trail)) y) top)
     (levels_same n trail trail records after (length records - 1) refl rest)
     ∙ sym (ap tried (levels_some n trail records h))
-
-pub voiced_tried : (n : ℕ) (records : List LevelRecord) (j : ℕ) (x : LevelRecord) → j < length records → x.voice ≡ (get_or records j no_record).voice → Voiced n records → Voiced n (set records j x)
-voiced_tried n records j x h e v = λ i o. ⊎_elim
-    (λ (b : i ≡ j).
-    let at : get_or (set records j x) i no_record ≡ x = ap (λ q. get_or (set records j x) q no_record) b ∙ get_or-set_same records j x no_record h in
-    let was = v j h in
-    subst (λ (m : LevelRecord). (i ≤ m.voice) × (m.voice < n)) (sym at) (omega (arith, was.0), omega (arith, was.1)))
-    (λ (b : i ≢ j). subst (λ (m : LevelRecord). (i ≤ m.voice) × (m.voice < n)) (sym (get_or-set_other records j i x no_record b)) (v i (omega (arith, length-set records j x))))
-    (cases_eq i j)
-
--- the sets of the next child
-pub next_some : (n : ℕ) (voices trail : List ℕ) (records : List LevelRecord) → 0 < length records → next_sets voices (levels_at n trail records) ≡ child (level_at n trail records (length records - 1))
-next_some n voices trail records h = ap (next_sets voices) (levels_some n trail records h)
-
-pub next_none : (n : ℕ) (voices trail : List ℕ) (records : List LevelRecord) → length records ≡ 0 → next_sets voices (levels_at n trail records) ≡ voices
-next_none n voices trail records e = ap (next_sets voices) (levels_none n trail records e)

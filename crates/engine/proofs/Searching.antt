@@ -7,10 +7,15 @@ use Rattle.search.specs.Calls.{Table, over, Goes}
 use Rattle.engine.specs.declared.level.End.{End}
 use Rattle.engine.specs.declared.level.End.TheVariants.{Fresh, Found, Exhausted}
 use Rattle.engine.specs.Levels.{next_sets, tried}
-use Rattle.engine.specs.Places.{place_of, Opened, Advanced}
+use Rattle.engine.specs.Places.{place_of, Opened}
 use Rattle.engine.specs.Searches.{Ran, Runs}
 
 -- ---- the node that is opened next
+
+-- one node is opened, the root or the next child of the newest level; n levels are exhausted
+pub record Advanced (m : Meaning) (voices : List ℕ) (rows : List RowData) (p : Place) (v : View) (q : Place) (w : View) (n : ℕ) : Type 0 where
+  pub lost : ℕ
+  pub steps : Steps m voices rows p v q w n lost
 
 pub next_step : (m : Meaning) (voices : List ℕ) (rows : List RowData) (s : List ℕ) (ls : List Level) (e : End) (y : List ℕ) (v x : View) (q : Place) (i : ℕ)
     → over (place_of e y ls) ≡ false → s ≡ next_sets voices ls → Opened m rows s (tried ls) v q x i → Advanced m voices rows (place_of e y ls) v q x i

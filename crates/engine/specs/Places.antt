@@ -3,7 +3,7 @@ use Rattle.std.specs.Prelude.{ℕ, List, [], ◌∷◌}
 use Rattle.sets.specs.Placings.{values}
 use Rattle.rows.specs.Rows.{RowData, Meaning}
 use Rattle.stores.specs.Stores.{View}
-use Rattle.search.specs.Search.{Level, Place, Opens, Steps}
+use Rattle.search.specs.Search.{Level, Place, Opens}
 use Rattle.search.specs.Search.Place.{fresh, going, found, none}
 use Rattle.engine.specs.declared.level.End.{End}
 use Rattle.engine.specs.declared.level.End.TheVariants.{Fresh, Found, Exhausted}
@@ -23,8 +23,3 @@ place_of e s (l ∷ ls) = going l ls
 pub record Opened (m : Meaning) (rows : List RowData) (s : List ℕ) (ls : List Level) (v : View) (p : Place) (w : View) (n : ℕ) : Type 0 where
   pub lost : ℕ
   pub opens : Opens m rows s ls v p w n lost
-
--- one node is opened, the root or the next child of the newest level; n levels are exhausted
-pub record Advanced (m : Meaning) (voices : List ℕ) (rows : List RowData) (p : Place) (v : View) (q : Place) (w : View) (n : ℕ) : Type 0 where
-  pub lost : ℕ
-  pub steps : Steps m voices rows p v q w n lost

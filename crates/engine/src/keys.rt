@@ -12,10 +12,13 @@ use std::alloc::{AllocError, Global};
 use stores::key::write_key;
 use stores::store::{Store, Stored};
 
-// The words of the longest key.
+// The words of the longest key, of 80 voices and 120 rows.
 const KEY_WORDS: usize = 320;
 
 // Room for a key, reserved when it is made. It stays filled, since a key is written into a slice.
+//
+// That the rows are few is asked by each function that is lent them, and the store is lent beside them: a struct around the two would hold a `&mut` of the
+// table's store, and each function would have to say that it gives the same store back.
 #[derive(Drop)]
 pub struct KeyBuffer {
     words: Vec<u64>,

@@ -10,7 +10,8 @@ pub mod back;
 pub mod child;
 pub mod ops;
 
-// The levels, the newest last, in memory that is reserved when they are made.
+// The levels, the newest last, in memory that is reserved when they are made. A record and its sets lie in two vectors, since a vector for each level would have
+// to be reserved 80 times; and each method says that it keeps `width`, which no ghost field can say.
 #[derive(Drop)]
 pub struct Levels {
     // how many sets a level has: one for each voice

@@ -1,4 +1,4 @@
-// The search over memory that is there: its levels, keys, backing up, and one node after the other.
+// The search: its levels, keys, backing up, and one node after the other, in memory that is reserved when it is made.
 #![tactic(auto)]
 
 pub mod keys;

@@ -5,14 +5,12 @@ use kinds::FourKinds;
 use parse::parse_calls;
 use played::call::Call;
 use played::play::play;
-use show::print_answer;
 use std::io;
 use stores::bare::Bare;
 use stores::shelf::Shelf;
 use stores::store::Store;
 
 mod parse;
-mod show;
 
 // How many words the two shelves have: more than the history needs, and so few that keys are lost.
 const LARGE: usize = 4096;
@@ -29,7 +27,7 @@ fn play_over<S: Store + Drop>(
     println!(rt; "{name}:")?;
     let answers = play::<FourKinds, S>(rt.alloc(), store, calls)?;
     for answer in &answers {
-        print_answer(rt, answer)?;
+        println!(rt; "{answer}")?;
     }
     Ok(())
 }

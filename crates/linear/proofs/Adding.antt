@@ -40,13 +40,6 @@ near_add n k a b h j = record { above = omega (arith, ints, h.above, j.above); b
 
 -- ---- a member's least
 
-pub low_below : (s : List ℕ) (m : Member) → le_z (pos 0) m.argument ≡ false → low s m ≡ term m (greatest (at s m))
-low_below s m h = go m.argument h
-  where
-    go : (a : ℤ) → le_z (pos 0) a ≡ false → cond (non_neg a) (term m (least (at s m))) (term m (greatest (at s m))) ≡ term m (greatest (at s m))
-    go (pos n) h = absurd (omega (arith, ints))
-    go (negsuc n) h = refl
-
 near_term : (m : Member) (v : ℕ) → SFits w16 m.argument → v ≤ 64 → Near 2097152 (term m v)
 near_term m v f h = near_wider (32768 * v) 2097152 (term m v) (omega arith) (near_product m.argument v f)
 

@@ -53,7 +53,8 @@ trait Term {
         ensures near { Near (32768 * 64) result };
 }
 
-// Coefficient × the greatest value of the member's set, or the least.
+// Coefficient × a value of the member's set: the greatest where `upper`, otherwise the least. (A flag: the two are one test apart, and a function for each would be
+// twice the same.)
 fn at_end(member: Member, sets: &[ValueSet], upper: bool) -> i64
     ensures value { result ≡ term member (if upper then greatest (at sets.now member) else least (at sets.now member)) }
     ensures near { Near (32768 * 64) result }
@@ -104,7 +105,7 @@ impl Term for Placed {
     }
 }
 
-// The sum of what each member adds.
+// The sum of what each member adds. (A loop: `sum` of signed numbers has no bound.)
 fn sum_of<T: Term>(row: &Row, sets: &[ValueSet]) -> i64
     ensures value { result ≡ total (T.Term.term sets.now) (row_of row.now).members }
     ensures near { Near (32 * 32768 * 64) result }
@@ -135,7 +136,8 @@ fn values_within(coefficient: i16, slack: i64) -> ValueSet
     }
 }
 
-// The least that each member adds, in order, and the sum of these.
+// The least that each member adds, in order, and the sum of these: terms and sum in one pass, since most of a turn is spent here, and the terms in an array beside the
+// members, since a turn takes no memory.
 fn lowest_terms(row: &Row, sets: &[ValueSet]) -> ([i64; MOST_MEMBERS], i64)
     ensures long { length result.0 ≡ 32 }
     ensures terms { take (length (row_of row.now).members) result.0 ≡ map (low sets.now) (row_of row.now).members }
@@ -203,6 +205,7 @@ impl Kind for Linear {
         let (lows, sum) = lowest_terms(row, sets);
         let spare = bound(row) - sum;
         let mut took = false;
+        // by index: what `keep_only` needs of a term is known by the member's place
         for (i, m) in row.members().iter().enumerate() {
             took |= keep_only(sets, m.voice, values_within(m.argument, spare + lows[i]));
         }

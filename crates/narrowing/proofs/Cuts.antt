@@ -35,10 +35,6 @@ pub each_both : {A : Type 0} (P Q R : A → Type 0) (xs : List A) → ((x : A) �
 each_both P Q R [] g e d = tt
 each_both P Q R (x ∷ xs) g e d = (g x e.0 d.0, each_both P Q R xs g e.1 d.1)
 
-pub each_any : {A : Type 0} (P : A → Type 0) (xs : List A) → ((x : A) → P x) → Each P xs
-each_any P [] g = tt
-each_any P (x ∷ xs) g = (g x, each_any P xs g)
-
 pub any_same : {A : Type 0} (f g : A → Bool) (xs : List A) → Each (λ x. f x ≡ g x) xs → list_any f xs ≡ list_any g xs
 any_same f g [] e = refl
 any_same f g (x ∷ xs) e = ap₂ ◌||◌ e.0 (any_same f g xs e.1)
@@ -50,11 +46,6 @@ all_same f g (x ∷ xs) e = ap₂ ◌&&◌ e.0 (all_same f g xs e.1)
 pub map_same : {A B : Type 0} (f g : A → B) (xs : List A) → Each (λ x. f x ≡ g x) xs → map f xs ≡ map g xs
 map_same f g [] e = refl
 map_same f g (x ∷ xs) e = ap₂ {C = List _} (λ y ys. y ∷ ys) e.0 (map_same f g xs e.1)
-
--- one that passes
-pub any_one : {A : Type 0} (P : A → Type 0) (f : A → Bool) (xs : List A) → list_any f xs ≡ true → Each P xs → (x : A) × (f x ≡ true) × P x
-any_one P f [] e d = absurd (both_ways false refl e)
-any_one P f (x ∷ xs) e d = elim (or_cases (f x) (list_any f xs) e) [ inl k ↦ (x, k, d.0) | inr k ↦ any_one P f xs k d.1 ]
 
 -- ---- sets below 2 ^ 64
 

@@ -25,7 +25,7 @@ pub fn keep_only(sets: &mut [ValueSet], voice: u16, kept: ValueSet) -> bool
     ensures after { sets.new ≡ cut voice (has kept) sets.old }
     ensures value { result ≡ changed sets.new sets.old }
 {
-    // by index: what a write through get_mut leaves of the slice, the check does not know
+    // by index: the check does not know what a write through `get_mut` leaves in the slice
     let place = usize::from(voice);
     if place >= sets.len() {
         return false;
@@ -35,7 +35,8 @@ pub fn keep_only(sets: &mut [ValueSet], voice: u16, kept: ValueSet) -> bool
     sets[place] != before
 }
 
-// Whether a row has this letter, so many body bytes, a count from 1 to 32 and that many members.
+// Whether a row has this letter, so many body bytes, a count from 1 to 32 and that many members. (Letter and length are a kind's own constants, and not taken
+// from a type parameter: the kinds call this where they are made kinds, and are none yet.)
 pub fn is_shaped(row: &Row, letter: u8, body_length: usize) -> bool
     ensures { result ≡ shaped letter body_length (row_of row.now) }
 {

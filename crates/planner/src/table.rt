@@ -34,7 +34,7 @@ pub struct Table<B: Bank, S: Store> {
     store: S,
     // the opening sets of the voices
     voices: Vec<ValueSet>,
-    // memory for the rows and one more, which bytes are read into: the first `posted` are the table's
+    // memory for the rows and one more, which bytes are read into: the first `posted` are the table's (counted beside, since no call after Make may want memory)
     rows: Vec<Row>,
     posted: usize,
     // how many bytes the table's rows have together

@@ -1,8 +1,9 @@
-// The calls of a table and their answers, as values.
+// The calls of a table and their answers, as values. An answer is printed as a line of text.
 use planner::refusal::Refusal;
 use sets::ValueSet;
+use std::fmt;
 
-#[derive(Drop)]
+#[derive(Debug, PartialEq, Drop)]
 pub enum Call {
     // one voice more, with this opening set
     Declare(ValueSet),
@@ -15,7 +16,7 @@ pub enum Call {
     Wipe,
 }
 
-#[derive(Drop)]
+#[derive(Debug, PartialEq, Drop)]
 pub enum Answer {
     // a Declare, a Post or a Wipe was accepted
     Done,
@@ -27,4 +28,31 @@ pub enum Answer {
     Stopped,
     // a Read wrote so many values, and these are the bytes then
     Wrote(usize, Vec<u8>),
+}
+
+// Writes the numbers, a space before each.
+fn write_bytes<W: fmt::Write>(f: &mut fmt::Formatter<W>, bytes: &[u8]) -> fmt::Result {
+    for b in bytes {
+        write!(f, " {b}")?;
+    }
+    Ok(())
+}
+
+impl fmt::Display for Answer {
+    fn fmt<W: fmt::Write>(&self, f: &mut fmt::Formatter<W>) -> fmt::Result {
+        match self {
+            Answer::Done => f.write_str("done"),
+            Answer::Refused(refusal) => write!(f, "refused {refusal}"),
+            Answer::Found(values) => {
+                f.write_str("found")?;
+                write_bytes(f, values)
+            }
+            Answer::None => f.write_str("none"),
+            Answer::Stopped => f.write_str("stopped"),
+            Answer::Wrote(count, bytes) => {
+                write!(f, "wrote {count}:")?;
+                write_bytes(f, bytes)
+            }
+        }
+    }
 }

@@ -1,4 +1,5 @@
-// Reports: what the program `plan` prints, as bytes.
+// Reports: what the program `plan` prints, as bytes. Load answers the one thing that is reported and leaves the other, so that answer and table are given beside each
+// other.
 #![tactic(auto)]
 
 ghost use Rattle.std.specs.Prelude.{◌≡◌, ◌≤◌, length, take};

@@ -56,7 +56,7 @@ fn put_value(writer: &mut Writer, voice: u64, value: u64)
     put_end(writer);
 }
 
-// The values of the voices. A line has the number of its voice too, so that it is no record of a value alone.
+// The values of the voices, a line each. (A loop of its own: a line has the number of its voice too, so that it is not written from the value alone.)
 pub(crate) fn put_values(writer: &mut Writer, values: &[u8])
     ensures { Wrote (value_lines 0 values.now) writer.old writer.new }
 {

@@ -71,6 +71,7 @@ pub struct Beside<X, Y> {
     second: PhantomData<Y>,
 }
 
+// Each of the three functions asks whose letter it is: what follows differs, and a closure for it would be no plainer.
 impl<X: Bank, Y: Bank> Bank for Beside<X, Y> {
     ghost meaning = { beside X.Bank.meaning Y.Bank.meaning };
 

@@ -24,7 +24,7 @@ impl Fault {
     }
 }
 
-// A fault is printed as its refusal's number.
+// A fault is printed as its refusal's number. (So is each enum of refusals above this one, by an impl of its own: Rust has none for all types with a number.)
 impl fmt::Display for Fault {
     ghost output = { λ fault. Some (decimal (number_of fault)) };
 
@@ -71,8 +71,8 @@ impl fmt::Display for RowFault {
     ghost output = { λ fault. Some (decimal (row_number_of fault)) };
 
     fn fmt<W: fmt::Write>(&self, f: &mut fmt::Formatter<W>) -> fmt::Result {
-        let refusal = self.number();
-        write!(f, "{refusal}")
+        let number = self.number();
+        write!(f, "{number}")
     }
 }
 

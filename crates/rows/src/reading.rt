@@ -35,7 +35,7 @@ fn member_count(bytes: &[u8]) -> Result<usize, RowFault>
 fn are_marked(bytes: &[u8]) -> bool
     ensures { result ≡ marked bytes.now }
 {
-    // a loop by pattern, as in push_members: of chunks_exact with all the check knows too little for the clause
+    // a loop by pattern, as in push_members: what the check knows of `chunks_exact` with `all` is too little for the clause
     let mut left = bytes;
     while let [mark, _voice, _low, _high, rest @ ..] = left {
         if *mark != MEMBER_MARK {

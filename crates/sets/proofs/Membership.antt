@@ -152,9 +152,6 @@ parts_same k t s h l e d = (ones_part k t s h l e).1 (le_antisymm (ones_part k t
 pub none_zero : (k s : ℕ) → s < 2 ^ k → ((v : ℕ) → has s v ≡ false) → s ≡ zero
 none_zero k s h e = parts_same k s zero h (pow_pos k) (λ v b. absurd (both_ways (has s v) (e v) b)) (λ v b. absurd (both_ways (has zero v) (has_none v) b))
 
-pub ones_none : (k s : ℕ) → s < 2 ^ k → ones s ≡ zero → s ≡ zero
-ones_none k s h e = sym ((ones_part k zero s (pow_pos k) h (λ v b. absurd (both_ways (has zero v) (has_none v) b))).1 (ones_zero ∙ sym e))
-
 pub has_pos : (s v : ℕ) → has s v ≡ true → 0 < s
 has_pos zero v e = absurd (both_ways (has zero v) (has_none v) e)
 has_pos (suc s) v e = omega arith
@@ -374,14 +371,6 @@ has_and a b v =
     digits x y (inr p) (inl q) = rw (p, q)
     digits x y (inr p) (inr q) = rw (p, q)
 
--- `s & !(1 << v)` is s without v
-pub and_not_only : (s v : ℕ) → s < 2 ^ 64 → v < 64 → bit_and s (2 ^ 64 - 1 - only v) ≡ sift (λ w. not (eqb w v)) s
-and_not_only s v h l =
-    same_sets 64 (bit_and s (2 ^ 64 - 1 - only v)) (sift (λ w. not (eqb w v)) s) (lt_of_le_of_lt (and_le_l s (2 ^ 64 - 1 - only v)) h) (sift_below (λ w. not (eqb w v)) s)
-    (λ w b. has_and s (2 ^ 64 - 1 - only v) w
-    ∙ ap (λ (x : Bool). has s w && x) (has_less (2 ^ 64 - 1) v w (has_all 64 v l) ∙ ap (λ (x : Bool). x && not (eqb w v)) (has_all 64 w b))
-    ∙ sym (has_sift (λ w. not (eqb w v)) s w b))
-
 -- and so is s less 2 ^ v, where s has v
 pub less_only : (s v : ℕ) → s < 2 ^ 64 → has s v ≡ true → s - only v ≡ sift (λ w. not (eqb w v)) s
 less_only s v h e =
@@ -389,9 +378,6 @@ less_only s v h e =
     (λ w b. has_less s v w e ∙ sym (has_sift (λ w. not (eqb w v)) s w b))
 
 -- ---- some value, and how many
-
-pub some_member : (s : ℕ) → 0 < s → s < 2 ^ 64 → (v : ℕ) × (v < 64) × (has s v ≡ true)
-some_member s p h = (least s, least_below s p h, has_least s p h)
 
 pub ones_all : (s : ℕ) → s < 2 ^ 64 → ones s ≤ 64
 ones_all s h = ones-le 64 s h
@@ -413,14 +399,6 @@ pub above_least : (s w : ℕ) → 0 < s → s < 2 ^ 64 → has (s - only (least 
 above_least s w p h e =
     let b = and_parts (has s w) (not (eqb w (least s))) (sym (has_less s (least s) w (has_least s p h)) ∙ e) in
     (b.0, lt_of_le-ne (least_first s w h b.0) (λ k. both_ways (eqb w (least s)) (not-true (eqb w (least s)) b.1) (eq-eqb w (least s) (sym k))))
-
-pub two_members : (s : ℕ) → 0 < s → s < 2 ^ 64 → fixed s ≡ false → (v : ℕ) × (has s v ≡ true) × (least s < v)
-two_members s p h f =
-    let t = s - only (least s) in
-    let below : t < 2 ^ 64 = omega arith in
-    let some : 0 < t = lt_of_le-ne zero-le (λ e. eqb-false (ones s) 1 f (ones_without s (least s) h (has_least s p h) ∙ ap (λ (x : ℕ). suc (ones x)) (sym e) ∙ ap suc ones_zero)) in
-    let k = above_least s (least t) p h (has_least t some below) in
-    (least t, k.0, k.1)
 
 -- a part of a set below 2 ^ k is below 2 ^ k
 own_power : (n : ℕ) → n < 2 ^ n

@@ -29,7 +29,7 @@ pub fn is_fixed(set: ValueSet) -> bool
     set.count_ones() == 1
 }
 
-// The least value of a set; 64 where it is empty.
+// The least value of a set; 64 where it is empty. (A number: a turn reckons with it as it is, also for rows that were never accepted.)
 pub fn least_value(set: ValueSet) -> u32
     ensures { result ≡ least set }
 {

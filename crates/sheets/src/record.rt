@@ -51,6 +51,7 @@ impl Record for Row {
     }
 }
 
+// The records of the items, one behind the other.
 pub(crate) fn write_all<T: Record>(items: &[T], writer: &mut Writer)
     ensures { Wrote (flat_map T.bytes items.now) writer.old writer.new }
 {

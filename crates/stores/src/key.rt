@@ -12,7 +12,7 @@ fn write_voices(sets: &[ValueSet], words: &mut [u64])
     requires { length sets.now ≤ length words.old }
     ensures { words.new ≡ voice_words sets.now ++ drop (length sets.now) words.old }
 {
-    // by index: what writes through iter_mut and zip leave of the words, the check does not know
+    // by index: the check does not know what a write through `iter_mut` beside `zip` leaves in the words
     for (i, s) in sets.iter().enumerate() {
         words[i] = if is_fixed(*s) { 0 } else { *s };
     }
@@ -23,6 +23,7 @@ fn write_traces<B: Bank>(rows: &[Row], sets: &[ValueSet], words: &mut [u64])
     requires { 2 * length rows.now ≤ length words.old }
     ensures { words.new ≡ trace_words B.Bank.meaning sets.now (rows_of rows.now) ++ drop (2 * length rows.now) words.old }
 {
+    // by index, as in write_voices
     for (i, row) in rows.iter().enumerate() {
         words[2 * i..2 * i + 2].copy_from_slice(&B::trace(row, sets).words());
     }

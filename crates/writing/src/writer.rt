@@ -19,7 +19,7 @@ impl<'a> Writer<'a> {
         ensures bytes { result.out.now ≡ out.old }
         ensures same { result.out.ghost_name ≡ out.entry.ghost_name }
     {
-        Writer { out, at: 0 }
+        Writer::from_place(out, 0)
     }
 
     // A writer from a place of the memory on.

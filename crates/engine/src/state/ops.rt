@@ -45,6 +45,7 @@ impl Search {
         requires { voice_count self.old < most_voices }
         ensures { Begun (voice_count self.old + 1) self.new }
     {
+        // a method may be called only while levels and sets fit, so that the levels are dropped once more
         self.restart();
         self.sets.push_reserved(0);
         self.levels.restart(self.sets.len());
@@ -54,6 +55,7 @@ impl Search {
     pub fn clear(&mut self)
         ensures { Begun 0 self.new }
     {
+        // as in add_voice
         self.restart();
         self.sets.clear();
         self.levels.restart(0);

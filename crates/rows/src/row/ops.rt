@@ -30,7 +30,7 @@ impl Row {
         self.members.clear();
     }
 
-    // One byte more of the body; false, and nothing changes, where it is as long as a body can be.
+    // One byte more of the body; false, and nothing changes, where it is as long as a body can be. (A bool, as `insert` of a set has it: there is one way to fail.)
     pub fn push_byte(&mut self, byte: u8) -> bool
         ensures value { result ≡ nat_lt (length (row_of self.old).body) 16 }
         ensures after { row_of self.new ≡ (if result then with_byte (row_of self.old) byte else row_of self.old) }
