@@ -1,6 +1,6 @@
 #!/usr/bin/env python3
-"""The search and the calls of docs/RULES.md over plain sets of Python, written independently of the crates: what the programs `plan` and `histories` should print.
-It is neither proved nor needed to build. usage: tools/search.py > crates/plan/stdout; tools/search.py histories > crates/histories/stdout"""
+"""The search and the calls of docs/RULES.md over plain sets of Python, written independently of the crates: what the programs `plan`, `harbour` and `histories` should print.
+It is neither proved nor needed to build. usage: tools/search.py sheet < SHEET; tools/search.py harbour > crates/harbour/stdout; tools/search.py histories > crates/histories/stdout"""
 import os
 import sys
 
@@ -236,14 +236,54 @@ def histories():
         for line in calls:
             print(table.call(line))
 
-# ---- the title of `plan`
+# ---- what `plan` prints of a sheet
+
+def row_length(bs):
+    """How many bytes the row at the front has: as many as letter and count ask for, or all."""
+    body = BODY.get(chr(bs[0]))
+    return len(bs) if body is None else 1 + body + 4 * (bs[1] if len(bs) > 1 else 0)
+
+def load(table, bs):
+    """Gives the table the sheet; answers the line of its first fault, or None."""
+    at = 0
+    while True:
+        if at == len(bs):
+            return f"refused 1 at {at} in sheet"
+        if bs[at] == 0x5A:
+            return None if at + 1 == len(bs) else f"refused 4 at {at + 1} in sheet"
+        if bs[at] == 0x56:
+            if table.rows:
+                return f"refused 3 at {at} in sheet"
+            if len(bs) < at + 9:
+                return f"refused 6 at {at} in sheet"
+            mask = int.from_bytes(bs[at + 1:at + 9], "little")
+            said, length = table.declare({v for v in range(64) if mask >> v & 1}), 9
+        else:
+            length = row_length(bs[at:])
+            said = table.post(list(bs[at:at + length]))
+        if said != "done":
+            return f"{said} at {at} in {'row' if int(said.split()[1]) < 10 else 'table'}"
+        at += length
+
+def sheet():
+    table = Table(4096)
+    fault = load(table, sys.stdin.buffer.read()[:20_000])
+    if fault:
+        return print(fault)
+    found = table.search.solve(1_000_000)
+    print(found if isinstance(found, str) else "found")
+    print(f"opened {table.search.opened}\nexhausted {table.search.exhausted}")
+    for voice, value in enumerate([] if isinstance(found, str) else found):
+        print(voice, value)
+
+# ---- the title of `harbour`
 
 NAMES = ["lead", "bass", "pad", "kick", "snare", "hat", "strings", "choir", "strings bank", "choir bank"]
 OPENING = [{0, 1, 2, 3}, {1}, {0, 1, 2, 3}, {0, 2, 3, 4}, {2, 3, 4, 5}, {3, 4, 5, 6, 7}, set(range(8)), set(range(8)), {4, 5, 6}, {4, 5, 6}]
 ROWS = [("A", [0, 1, 2, 3, 4, 5]), ("L", 26, [(1, 2), (3, 3), (4, 2), (5, 1)]), ("C", [(6, True, 0), (2, False, 2)]), ("E", 6, 8, WIRES), ("E", 7, 9, WIRES),
         ("L", -4, [(6, 1), (7, -1)]), ("L", 71, [(3, 5), (4, 6), (5, 3), (7, 5)]), ("L", -71, [(3, -5), (4, -6), (5, -3), (7, -5)])]
 
-def plan():
+def harbour():
     s = [set(x) for x in OPENING]
     alive = propagate(ROWS, s)
     show = lambda x: "{" + " ".join(map(str, sorted(x))) + "}"
@@ -271,4 +311,4 @@ def plan():
             print(f"  {n} {v}")
 
 if __name__ == "__main__":
-    histories() if sys.argv[1:] == ["histories"] else plan()
+    {"sheet": sheet, "harbour": harbour, "histories": histories}[sys.argv[1]]()

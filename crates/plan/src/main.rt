@@ -1,26 +1,18 @@
-// Narrows a built-in title, and then solves it over a shelf, a few nodes at a time.
+// Reads a sheet from standard input, solves it over a shelf, and prints the report.
 #![tactic(auto)]
 
-use narrow::narrow_title;
-use solve::solve_title;
-use std::io;
+use kinds::FourKinds;
+use planning::{MOST_SHEET, plan};
+use std::io::{self, Read, Write};
 use stores::shelf::Shelf;
-
-mod narrow;
-mod show;
-mod solve;
-mod title;
 
 // How many words the shelf has.
 const SHELF_WORDS: usize = 4096;
 
 fn main(rt: HostRuntime) -> io::Result<()> {
-    let texts = title::rows(rt.alloc())?;
-    let name = title::NAME;
-    let voices = title::OPENING.len();
-    let rows = texts.len();
-    println!(rt; "title: {name}, {voices} voices, {rows} rows")?;
-    narrow_title(&rt, &texts)?;
+    let mut sheet = Vec::with_capacity(rt.alloc(), MOST_SHEET)?;
+    rt.stdin().take(MOST_SHEET as u64).read_to_end(&mut sheet)?;
     let mut words = vec![in rt.alloc(); 0u64; SHELF_WORDS]?;
-    solve_title(&rt, Shelf::new(&mut words), &texts)
+    let text = plan::<FourKinds, Shelf>(rt.alloc(), Shelf::new(&mut words), &sheet)?;
+    rt.stdout().write_all(&text)
 }

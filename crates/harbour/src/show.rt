@@ -2,7 +2,7 @@
 use sets::{ValueSet, contains};
 use std::alloc::{AllocError, Global};
 
-// The values of a set in braces, ascending.
+// The values of a set in braces, ascending. (Not by Display: a set is a number to the language, which prints otherwise.)
 pub(crate) fn set_text(heap: Global, set: ValueSet) -> Result<String, AllocError> {
     let mut text = String::from_str(heap, "{")?;
     for value in (0..64u32).filter(|v| contains(set, *v)) {
@@ -16,7 +16,7 @@ pub(crate) fn set_text(heap: Global, set: ValueSet) -> Result<String, AllocError
     Ok(text)
 }
 
-// What a kind's rows say, by the kind's letter.
+// What a kind's rows say, by the kind's letter, which is all that a row has of its kind.
 pub(crate) fn kind_name(letter: u8) -> &'static str {
     match letter {
         b'A' => "all different",

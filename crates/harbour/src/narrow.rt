@@ -23,11 +23,12 @@ fn read_rows(rt: &HostRuntime, texts: &[Vec<u8>], voices: usize) -> io::Result<V
     Ok(rows)
 }
 
-fn print_voices(rt: &HostRuntime, before: &[ValueSet], after: &[ValueSet]) -> io::Result<()> {
+fn print_voices(rt: &HostRuntime, after: &[ValueSet]) -> io::Result<()> {
     println!(rt; "voices (lanes and banks before -> after)")?;
-    for (name, (old, new)) in title::VOICES.iter().zip(before.iter().zip(after)) {
-        let old = show::set_text(rt.alloc(), *old)?;
-        let new = show::set_text(rt.alloc(), *new)?;
+    for (voice, set) in title::VOICES.iter().zip(after) {
+        let name = voice.name;
+        let old = show::set_text(rt.alloc(), voice.places)?;
+        let new = show::set_text(rt.alloc(), *set)?;
         println!(rt; "  {name}: {old} -> {new}")?;
     }
     Ok(())
@@ -47,11 +48,14 @@ fn print_traces(rt: &HostRuntime, rows: &[Row], sets: &[ValueSet]) -> io::Result
 
 // Narrows the title and prints each voice's set before and after, and each row's trace.
 pub(crate) fn narrow_title(rt: &HostRuntime, texts: &[Vec<u8>]) -> io::Result<()> {
-    let mut sets = title::OPENING.to_vec(rt.alloc())?;
+    let mut sets = title::VOICES
+        .iter()
+        .map(|voice| voice.places)
+        .collect::<Vec<ValueSet>>(rt.alloc())?;
     let voices = sets.len();
     let rows = read_rows(rt, texts, voices)?;
     propagate::<FourKinds>(&rows, &mut sets);
-    print_voices(rt, &title::OPENING, &sets)?;
+    print_voices(rt, &sets)?;
     print_traces(rt, &rows, &sets)?;
     if has_empty(&sets) {
         println!(rt; "some voice has no place left")

@@ -17,8 +17,8 @@ fn fill<S: Store>(
     table: &mut Table<FourKinds, S>,
     texts: &[Vec<u8>],
 ) -> io::Result<()> {
-    for (i, set) in title::OPENING.iter().enumerate() {
-        if let Err(refusal) = table.declare(*set) {
+    for (i, voice) in title::VOICES.iter().enumerate() {
+        if let Err(refusal) = table.declare(voice.places) {
             println!(rt; "voice {i} is declined with {refusal}")?;
         }
     }
@@ -34,7 +34,8 @@ fn print_placing<S: Store>(rt: &HostRuntime, table: &Table<FourKinds, S>) -> io:
     let mut values = [0u8; MOST_VOICES];
     if let Ok(count) = table.read(&mut values) {
         println!(rt; "placing")?;
-        for (name, value) in title::VOICES.iter().zip(values.iter()).take(count) {
+        for (voice, value) in title::VOICES.iter().zip(values.iter()).take(count) {
+            let name = voice.name;
             println!(rt; "  {name} {value}")?;
         }
     }

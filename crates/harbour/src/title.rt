@@ -5,32 +5,29 @@ use std::alloc::{AllocError, Global};
 
 pub const NAME: &str = "Harbour at Dawn";
 
-// What the voices are called; all but the last two are placed on mixer lanes, those on sample banks.
-pub static VOICES: [&str; 10] = [
-    "lead",
-    "bass",
-    "pad",
-    "kick",
-    "snare",
-    "hat",
-    "strings",
-    "choir",
-    "strings bank",
-    "choir bank",
-];
+// A voice: what it is called, and the lanes or banks that it may take.
+#[derive(Clone, Copy)]
+pub struct Voice {
+    pub name: &'static str,
+    pub places: ValueSet,
+}
 
-// The lanes and banks that each voice may take.
-pub static OPENING: [ValueSet; 10] = [
-    0b0000_1111,
-    0b0000_0010,
-    0b0000_1111,
-    0b0001_1101,
-    0b0011_1100,
-    0b1111_1000,
-    0b1111_1111,
-    0b1111_1111,
-    0b0111_0000,
-    0b0111_0000,
+const fn voice(name: &'static str, places: ValueSet) -> Voice {
+    Voice { name, places }
+}
+
+// The voices; all but the last two are placed on mixer lanes, those on sample banks.
+pub static VOICES: [Voice; 10] = [
+    voice("lead", 0b0000_1111),
+    voice("bass", 0b0000_0010),
+    voice("pad", 0b0000_1111),
+    voice("kick", 0b0001_1101),
+    voice("snare", 0b0011_1100),
+    voice("hat", 0b1111_1000),
+    voice("strings", 0b1111_1111),
+    voice("choir", 0b1111_1111),
+    voice("strings bank", 0b0111_0000),
+    voice("choir bank", 0b0111_0000),
 ];
 
 // The bytes of a row: its letter, its body, and for each member M, a voice and an argument.
