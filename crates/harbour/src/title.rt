@@ -12,22 +12,48 @@ pub struct Voice {
     pub places: ValueSet,
 }
 
-const fn voice(name: &'static str, places: ValueSet) -> Voice {
-    Voice { name, places }
-}
-
 // The voices; all but the last two are placed on mixer lanes, those on sample banks.
 pub static VOICES: [Voice; 10] = [
-    voice("lead", 0b0000_1111),
-    voice("bass", 0b0000_0010),
-    voice("pad", 0b0000_1111),
-    voice("kick", 0b0001_1101),
-    voice("snare", 0b0011_1100),
-    voice("hat", 0b1111_1000),
-    voice("strings", 0b1111_1111),
-    voice("choir", 0b1111_1111),
-    voice("strings bank", 0b0111_0000),
-    voice("choir bank", 0b0111_0000),
+    Voice {
+        name: "lead",
+        places: 0b0000_1111,
+    },
+    Voice {
+        name: "bass",
+        places: 0b0000_0010,
+    },
+    Voice {
+        name: "pad",
+        places: 0b0000_1111,
+    },
+    Voice {
+        name: "kick",
+        places: 0b0001_1101,
+    },
+    Voice {
+        name: "snare",
+        places: 0b0011_1100,
+    },
+    Voice {
+        name: "hat",
+        places: 0b1111_1000,
+    },
+    Voice {
+        name: "strings",
+        places: 0b1111_1111,
+    },
+    Voice {
+        name: "choir",
+        places: 0b1111_1111,
+    },
+    Voice {
+        name: "strings bank",
+        places: 0b0111_0000,
+    },
+    Voice {
+        name: "choir bank",
+        places: 0b0111_0000,
+    },
 ];
 
 // The bytes of a row: its letter, its body, and for each member M, a voice and an argument.
