@@ -31,7 +31,7 @@ fn open_row<B: Bank>(letter: u8, body: &[u8], room: usize) -> Result<Ticket, Bui
     Ok(Ticket::new((1 + length) as u8, first))
 }
 
-// Begins a row: writes letter and body at the front of the memory.
+// Begins a row: writes letter and body at the front of the memory. (They are given as the format has them, and are no `Row` before they are read as one.)
 pub fn begin<B: Bank>(letter: u8, body: &[u8], memory: &mut [u8]) -> Result<Ticket, BuildFault>
     ensures value { result ≡ begin_answer B.Bank.meaning letter body.now (length memory.old) }
     ensures after { memory.new ≡ begin_memory B.Bank.meaning letter body.now memory.old }

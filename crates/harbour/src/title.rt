@@ -56,7 +56,7 @@ pub static VOICES: [Voice; 10] = [
     },
 ];
 
-// The bytes of a row: its letter, its body, and for each member M, a voice and an argument.
+// The bytes of a row, which is what a table is given: its letter, its body, and for each member M, a voice and an argument.
 fn row(
     heap: Global,
     letter: u8,

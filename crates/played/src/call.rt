@@ -22,7 +22,7 @@ pub enum Answer {
     Done,
     // a call was declined
     Refused(Refusal),
-    // a Solve has found these values, or that there are none, or stopped at its budget
+    // a Solve has found these values, or that there are none, or stopped at its budget (no `Outcome`, since found comes with its values here)
     Found(Vec<u8>),
     None,
     Stopped,
