@@ -71,8 +71,8 @@ impl fmt::Display for RowFault {
     ghost output = { λ fault. Some (decimal (row_number_of fault)) };
 
     fn fmt<W: fmt::Write>(&self, f: &mut fmt::Formatter<W>) -> fmt::Result {
-        let number = self.number();
-        write!(f, "{number}")
+        let row_number = self.number();
+        write!(f, "{row_number}")
     }
 }
 
