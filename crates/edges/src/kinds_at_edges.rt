@@ -10,6 +10,7 @@ use rows::row::Row;
 use std::alloc::{AllocError, Global};
 use std::test::Fail;
 
+// A row, which is what a kind is given. (A table is given bytes, which harbour writes.)
 fn row(heap: Global, letter: u8, body: &[u8], members: &[(u16, i16)]) -> Result<Row, AllocError> {
     let mut row = Row::new(heap, letter)?;
     for b in body {

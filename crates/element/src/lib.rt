@@ -66,7 +66,8 @@ fn index_values(entries: &[Member], results: ValueSet) -> ValueSet
     ensures { result ≡ mask 64 (λ i. nat_lt i (length entries.now) && has results (entry entries.now i)) }
 {
     let mut indices = 0;
-    // the set of the place at hand, which moves along with it: a place itself may be more than a shift can take; empty from place 64 on
+    // the set of the place at hand, which moves along with it: a place itself may be more than a shift can take, and a cast of
+    // it would be no plainer; empty from place 64 on
     let mut here = 1;
     for m in entries {
         if contains(results, value_of(*m)) {

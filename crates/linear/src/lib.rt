@@ -146,6 +146,7 @@ fn lowest_terms(row: &Row, sets: &[ValueSet]) -> ([i64; MOST_MEMBERS], i64)
 {
     let mut lows = [0; MOST_MEMBERS];
     let mut sum = 0;
+    // by index: what is known of a term is known by its member's place
     for (i, m) in row.members().iter().enumerate() {
         let term = Lowest::of(*m, sets);
         lows[i] = term;

@@ -20,7 +20,7 @@ pub const MOST_SHEET: usize = 20_000;
 
 const BUDGET: u64 = 1_000_000;
 
-// The report of the table, after a Load with this answer, in memory of its own.
+// The report of the table, after a Load with this answer, in memory of its own. (Answer and table beside each other, as in report.)
 fn written_report<B: Bank, S: Store>(
     heap: Global,
     answer: Result<(), SheetFault>,

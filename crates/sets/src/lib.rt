@@ -36,7 +36,7 @@ pub fn least_value(set: ValueSet) -> u32
     set.trailing_zeros()
 }
 
-// The greatest value of a set; 0 where it is empty.
+// The greatest value of a set; 0 where it is empty. (A number, as the least is.)
 pub fn greatest_value(set: ValueSet) -> u32
     ensures { result ≡ greatest set }
 {

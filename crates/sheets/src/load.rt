@@ -28,7 +28,7 @@ fn front_row<B: Bank>(bytes: &[u8]) -> &[u8]
 }
 
 // That the search has not begun is asked by each of the three functions that read a record: a struct over the lent table that knew it would have to say in
-// each of them that it lends the same table, which is one clause for another.
+// each of them that it lends the same table, which is one clause for another; and of all three in one function the check did not end in ten minutes.
 
 // Declares the voice whose record, after its first byte, stands at the front, and answers how long the record is.
 fn read_voice<B: Bank, S: Store>(

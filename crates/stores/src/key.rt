@@ -12,7 +12,8 @@ fn write_voices(sets: &[ValueSet], words: &mut [u64])
     requires { length sets.now ≤ length words.old }
     ensures { words.new ≡ voice_words sets.now ++ drop (length sets.now) words.old }
 {
-    // by index: the check does not know what a write through `iter_mut` beside `zip` leaves in the words
+    // by index: the check does not know what a write through `iter_mut` beside `zip` leaves in the words (engine's write_values is such a loop too, into bytes: over a
+    // closure for what is written the clause would say less)
     for (i, s) in sets.iter().enumerate() {
         words[i] = if is_fixed(*s) { 0 } else { *s };
     }

@@ -15,6 +15,7 @@ use rows::row::Row;
 use sets::ValueSet;
 use stores::store::Store;
 
+// Each of these says that there are as many voices as before, which no ghost field can say.
 impl Search {
     // Opens the node with the sets that were read, which is the newest level's next child, or the root if there is no level.
     fn open_node<B: Bank, S: Store>(&mut self, rows: &[Row], store: &mut S)

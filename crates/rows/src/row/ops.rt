@@ -42,7 +42,7 @@ impl Row {
         true
     }
 
-    // One member more; false, and nothing changes, where there are as many as a row can have.
+    // One member more; false, and nothing changes, where there are as many as a row can have. (A bool, as above.)
     pub fn push_member(&mut self, member: Member) -> bool
         ensures value { result ≡ nat_lt (length (row_of self.old).members) 32 }
         ensures after { row_of self.new ≡ (if result then with_member (row_of self.old) member else row_of self.old) }
