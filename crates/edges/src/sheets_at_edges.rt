@@ -197,6 +197,24 @@ fn largest_planned(rt: HostRuntime) -> Result<(), Fail> {
     Ok(())
 }
 
+// What is printed of the sheet, over a shelf of 4,096 words.
+fn planned(rt: &HostRuntime, sheet: &[u8]) -> Result<Vec<u8>, AllocError> {
+    let mut words = vec![in rt.alloc(); 0u64; 4_096]?;
+    plan::<FourKinds, Shelf>(rt.alloc(), Shelf::new(&mut words), sheet)
+}
+
+// More bytes than are read, all of them voices, of which 80 fit; and 120 rows of 32 literals, of which 63 fit (8,190 bytes).
+#[test]
+fn more_than_fits(rt: HostRuntime) -> Result<(), Fail> {
+    let voices = sheet(&rt, 2_300, 0, b"Z")?;
+    assert!(rt; planned(&rt, &voices)?.as_slice() == "refused 11 at 720 in table\n".as_bytes());
+    let mut rows = sheet(&rt, 1, 0, b"")?;
+    push_clauses(&mut rows, 120, 32)?;
+    rows.push(b'Z')?;
+    assert!(rt; planned(&rt, &rows)?.as_slice() == "refused 12 at 8199 in table\n".as_bytes());
+    Ok(())
+}
+
 // A byte more of rows than there may be, and a declined sheet leaves nothing.
 #[test]
 fn bytes_at_their_limit(rt: HostRuntime) -> Result<(), Fail> {
