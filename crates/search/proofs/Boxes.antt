@@ -1,10 +1,11 @@
 -- Lists of sets, and the placings within them.
-use Rattle.std.proofs.Common.{◌≡◌, ℕ, zero, suc, ◌<◌, ◌≤◌, true, false, eqb, List, [], ◌∷◌, length, get_or, sym, refl, ◌∙◌, subst, ap₂, inl, inr, le_antisymm, arith}
+use Rattle.std.proofs.Common.{◌≡◌, ℕ, zero, suc, ◌*◌, ◌<◌, ◌≤◌, true, false, eqb, List, [], ◌∷◌, length, get_or, sym, refl, ◌∙◌, subst, ap₂, inl, inr, le_antisymm, arith}
 use Rattle.std.proofs.lemmas.Bool.{eqb-true, eqb-false, both_ways, ne_eqb, or_cases, or_from, or_parts, and_parts}
 use Rattle.std.proofs.lemmas.List.{ext_get_or}
 use Rattle.sets.specs.Sets.{has, fixed}
 use Rattle.sets.specs.Laws.{Word}
 use Rattle.sets.specs.Placings.{some_empty, all_fixed, values, Proper, Within, Narrower}
+use lib.Count.{ones-le}
 use Rattle.sets.proofs.Membership.{part_below, ones_part}
 use Rattle.search.specs.Propagation.{size}
 use Rattle.search.proofs.SetParts.{empty_has, fixed_one}
@@ -78,6 +79,10 @@ size_same (x ∷ t) (y ∷ s) b n h =
     let tail = narrow_tail x y t s n in
     let c = size_le t s (words_tail y s b) tail in
     ap₂ (λ (z : ℕ) (u : List ℕ). z ∷ u) (a.1 (le_antisymm a.0 (omega (arith, a.0)))) (size_same t s (words_tail y s b) tail (omega (arith, a.0)))
+
+pub size_most : (s : List ℕ) → Words s → size s ≤ 64 * length s
+size_most [] b = omega arith
+size_most (x ∷ s) b = omega (arith, ones-le 64 x (b 0 (omega arith)), size_most s (words_tail x s b))
 
 -- ---- fixed sets
 

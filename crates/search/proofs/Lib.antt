@@ -2,6 +2,7 @@ pub mod Scans
 pub mod SetParts
 pub mod Boxes
 pub mod PropagationFacts
+pub mod Quiet
 pub mod KeyFacts
 pub mod LevelFacts
 pub mod NodeFacts

@@ -1,5 +1,5 @@
 -- Propagation only takes values out, keeps every placing for which all rows hold, and ends where no turn changes anything.
-use Rattle.std.proofs.Common.{◌≡◌, ℕ, zero, suc, ◌<◌, Bool, true, false, ◌⊎◌, List, [], ◌∷◌, length, sym, refl, ap, ◌∙◌, subst, inl, inr, arith}
+use Rattle.std.proofs.Common.{◌≡◌, ℕ, zero, suc, ◌*◌, ◌<◌, Bool, true, false, ◌⊎◌, List, [], ◌∷◌, length, sym, refl, ap, ◌∙◌, subst, inl, inr, arith}
 use Rattle.std.proofs.lemmas.Bool.{both_ways, and_parts, and_from, cases_Bool, cases_lt, not-true, not-false}
 use Rattle.sets.specs.Placings.{same, changed, some_empty, all_fixed, values, Proper, Within, Narrower}
 use Rattle.std.specs.List.{list_all}
@@ -8,7 +8,7 @@ use Rattle.rows.specs.Laws.{Laws, Accepted}
 use Rattle.search.specs.Propagation.{Round, round_from, round, rounds, propagated, size}
 use Rattle.search.specs.Placed.{AllAccepted, AllHold, Lawful}
 use Rattle.search.specs.Results.{Stable, Propagates}
-use Rattle.search.proofs.Boxes.{narrow_trans, narrow_refl, proper_narrow, proper_full, proper_words, size_le, size_same, within_narrow, values_only}
+use Rattle.search.proofs.Boxes.{narrow_trans, narrow_refl, proper_narrow, proper_full, proper_words, size_le, size_same, size_most, within_narrow, values_only}
 use Rattle.sets.proofs.Lists.{same_self, same_is, values_within}
 
 -- t is s without values that matter
@@ -28,7 +28,7 @@ unfolding after
 turn_is m seen r rows s c k e f =
     ap (λ (x : Bool). after m seen rows (m.turn r s) x (some_empty (m.turn r s))) e ∙ ap (after m seen rows (m.turn r s) c) f
 
-idle_is : (m : Meaning) (seen : Bool) (r : RowData) (rows : List RowData) (s : List ℕ) → m.turn r s ≡ s → changed (m.turn r s) s ≡ false
+pub idle_is : (m : Meaning) (seen : Bool) (r : RowData) (rows : List RowData) (s : List ℕ) → m.turn r s ≡ s → changed (m.turn r s) s ≡ false
     → round_from m seen (r ∷ rows) s ≡ round_from m seen rows s
 unfolding after
 idle_is m seen r rows s e c = turn_is m seen r rows s false (some_empty (m.turn r s)) c refl ∙ ap (round_from m seen rows) e
@@ -162,7 +162,7 @@ module _ (m : Meaning) (L : Laws m) (n : ℕ) where
       ]
 
   pub propagated_ok : (rows : List RowData) (s : List ℕ) → length s ≡ n → AllAccepted m rows n → Proper s → Ended rows s (propagated m rows s)
-  propagated_ok rows s e o p = rounds_ok rows (suc (size s)) s e o p (omega arith)
+  propagated_ok rows s e o p = rounds_ok rows (suc (64 * length s)) s e o p (omega (arith, size_most s (proper_words s p)))
 
   -- any two numbers of rounds that are above the number of values give the same
   rounds_enough : (rows : List RowData) (k j : ℕ) (s : List ℕ) → length s ≡ n → AllAccepted m rows n → Proper s → size s < k → size s < j → rounds m rows k s ≡ rounds m rows j s
@@ -189,7 +189,7 @@ propagation_sound m L rows s o p =
       narrower = ended.0.narrow;
       keeps = ended.0.keeps;
       ends = λ z. elim ended.1 [ inl y ↦ absurd (both_ways (some_empty (propagated m rows s)) z y) | inr y ↦ y ];
-      enough = λ k h. rounds_enough m L (length s) rows k (suc (size s)) s refl o p h (omega arith);
+      enough = λ k h. rounds_enough m L (length s) rows k (suc (64 * length s)) s refl o p h (omega (arith, size_most s (proper_words s p)));
     }
 
 pub fixed_solves : (m : Meaning) → Laws m → (rows : List RowData) (s : List ℕ) → AllAccepted m rows (length s) → Proper s

@@ -1,5 +1,5 @@
 -- Propagation: rows take turns in order, round after round, until a turn empties a set or a round changes nothing.
-use Rattle.std.specs.Prelude.{ℕ, zero, suc, ◌+◌, Bool, true, false, List, [], ◌∷◌, count_ones}
+use Rattle.std.specs.Prelude.{ℕ, zero, suc, ◌+◌, ◌*◌, Bool, true, false, List, [], ◌∷◌, length, count_ones}
 use Rattle.sets.specs.Placings.{some_empty, changed}
 use Rattle.rows.specs.Rows.{RowData, Meaning}
 
@@ -29,6 +29,6 @@ abbrev pub size : List ℕ → ℕ
 size [] = 0
 size (s ∷ sets) = count_ones s + size sets
 
--- each round but the last takes a value out, so there are no more rounds than values, and one
+-- each round but the last takes a value out, and a set has 64 values at most
 abbrev pub propagated : Meaning → List RowData → List ℕ → List ℕ
-propagated m rows s = rounds m rows (suc (size s)) s
+propagated m rows s = rounds m rows (suc (64 * length s)) s

@@ -1,12 +1,16 @@
 // Propagation: rows take turns until none changes a set, or one empties a set.
-ghost use Rattle.std.specs.Prelude.{◌≡◌, false};
+ghost use Rattle.std.specs.Prelude.{◌≡◌, drop, is_some, IfSome};
 ghost use Rattle.sets.specs.Placings.{some_empty};
 ghost use Rattle.rows.specs.Views.{rows_of};
-ghost use Rattle.search.specs.Propagation.{round, size, propagated};
+ghost use Rattle.search.specs.Propagation.{round, propagated};
+ghost use Rattle.search.specs.Results.{Stable};
 
 use rows::bank::Bank;
 use rows::row::Row;
 use sets::ValueSet;
+
+// The most values that a set has.
+const MOST_VALUES: u128 = 64;
 
 // Whether some set has no value.
 pub fn has_empty(sets: &[ValueSet]) -> bool
@@ -15,37 +19,40 @@ pub fn has_empty(sets: &[ValueSet]) -> bool
     sets.iter().any(|s| *s == 0)
 }
 
-// How many values the sets have together.
-pub fn count_values(sets: &[ValueSet]) -> u128
-    ensures { result ≡ size sets.now }
-{
-    sets.iter().map(|s| u128::from(s.count_ones())).sum()
-}
-
-// Each row has a turn, until one empties a set. Says whether another round is due: some turn changed a set, and none emptied one.
-pub fn run_round<B: Bank>(rows: &[Row], sets: &mut [ValueSet]) -> bool
+// Each row has a turn in order, until one empties a set. Where none has changed a set yet, the rows from `quiet` on need none: theirs left these sets as they
+// are. Says whether another round is due, since some turn changed a set and none emptied one: the rows from the answered one on left the sets as they are then.
+fn run_round<B: Bank>(rows: &[Row], sets: &mut [ValueSet], quiet: usize) -> Option<usize>
+    requires quiet { Stable B.Bank.meaning (rows_of (drop quiet rows.now)) sets.old }
     ensures after { sets.new ≡ (round B.Bank.meaning (rows_of rows.now) sets.old).sets }
-    ensures value { result ≡ (round B.Bank.meaning (rows_of rows.now) sets.old).again }
+    ensures value { is_some result ≡ (round B.Bank.meaning (rows_of rows.now) sets.old).again }
+    ensures rest { IfSome result (λ k. Stable B.Bank.meaning (rows_of (drop k rows.now)) sets.new) }
 {
-    let mut again = false;
-    for row in rows {
+    let mut due = None;
+    let mut end = quiet;
+    for (i, row) in rows.iter().enumerate() {
+        if i == end {
+            break;
+        }
         if B::turn(row, sets) {
             if has_empty(sets) {
-                return false;
+                return None;
             }
-            again = true;
+            due = Some(i + 1);
+            end = rows.len();
         }
     }
-    again
+    due
 }
 
 // Rounds as long as another is due.
 pub fn propagate<B: Bank>(rows: &[Row], sets: &mut [ValueSet])
     ensures { sets.new ≡ propagated B.Bank.meaning (rows_of rows.now) sets.old }
 {
-    for _ in 0..=count_values(sets) {
-        if !run_round::<B>(rows, sets) {
+    let mut quiet = rows.len();
+    for _ in 0..=MOST_VALUES * sets.len() as u128 {
+        let Some(rest) = run_round::<B>(rows, sets, quiet) else {
             break;
-        }
+        };
+        quiet = rest;
     }
 }

@@ -1,32 +1,26 @@
-use Rattle.std.proofs.Common.{◌≡◌, ℕ, suc, ◌+◌, ◌-◌, sym, ap, ◌∙◌, arith}
+use Rattle.std.proofs.Common.{◌≡◌, ℕ, suc, ◌+◌, ◌-◌, ◌*◌, true, length, le_refl, sym, refl, ap, ◌∙◌, subst, arith}
+use Rattle.std.proofs.lemmas.List.{at_drop_all}
 use Rattle.rows.specs.Views.{rows_of}
-use Rattle.search.specs.Propagation.{rounds, size}
-use Rattle.search.proofs.Scans.{rounds_more, rounds_last}
+use Rattle.search.specs.Propagation.{rounds}
+use Rattle.search.specs.Results.{Stable}
+use Rattle.search.proofs.Scans.{rounds_more}
 use Rattle.search.proofs.propagation.propagate.Goals as goal
 
 pub loop-init : goal.loop-init
 loop-init g c =
-    let whole : suc (c.count_values-end.result - 0) ≡ suc (size c.args.sets.now) = omega (arith, c.count_values-end.ensures) in
-    ap (λ (n : ℕ). rounds g.B.Bank.meaning (rows_of c.args.rows.now) n c.args.sets.now) whole
+    let most = 64 * length c.args.sets.now in
+    let all : suc (most - 0) ≡ suc most = omega arith in
+    (ap (λ (n : ℕ). rounds g.B.Bank.meaning (rows_of c.args.rows.now) n c.args.sets.now) all, subst (λ l. Stable g.B.Bank.meaning (rows_of l) c.args.sets.now) (sym (at_drop_all (λ l. l) c.args.rows.now (length c.args.rows.now) (le_refl (length c.args.rows.now)))) tt)
 
 pub loop-preserved : goal.loop-preserved
 loop-preserved g c =
-    let one_less : suc (c.count_values-end.result - (c.loop.counter + 1)) ≡ c.count_values-end.result - c.loop.counter = omega arith in
-    ap (λ (n : ℕ). rounds g.B.Bank.meaning (rows_of c.args.rows.now) n c.run_round.new.sets) one_less
-    ∙ sym (rounds_more g.B.Bank.meaning (rows_of c.args.rows.now) (c.count_values-end.result - c.loop.counter) c.loop.sets c.run_round.new.sets c.run_round.result
-    c.run_round.ensures.after c.run_round.ensures.value c.if-not-run_round.false)
-    ∙ c.loop.invariant
-
-pub returns-then-not-run_round : goal.returns-then-not-run_round
-returns-then-not-run_round g c =
-    sym (rounds_last g.B.Bank.meaning (rows_of c.args.rows.now) (c.count_values-end.result - c.loop.counter) c.loop.sets c.run_round.new.sets c.run_round.result
-    c.run_round.ensures.after c.run_round.ensures.value c.if-not-run_round.true)
-    ∙ c.loop.invariant
-
-pub returns-else-not-run_round : goal.returns-else-not-run_round
-returns-else-not-run_round g c =
-    let last : 0 ≡ c.count_values-end.result - c.loop.counter = omega arith in
-    ap (λ (n : ℕ). rounds g.B.Bank.meaning (rows_of c.args.rows.now) n c.run_round.new.sets) last
-    ∙ sym (rounds_more g.B.Bank.meaning (rows_of c.args.rows.now) (c.count_values-end.result - c.loop.counter) c.loop.sets c.run_round.new.sets c.run_round.result
-    c.run_round.ensures.after c.run_round.ensures.value c.if-not-run_round.false)
-    ∙ c.loop.invariant
+    let m = g.B.Bank.meaning in
+    let rows = rows_of c.args.rows.now in
+    let most = 64 * length c.args.sets.now in
+    let one_less : suc (most - (c.loop.counter + 1)) ≡ most - c.loop.counter = omega arith in
+    let due = c.in-Some.ensures.value in (
+      ap (λ (n : ℕ). rounds m rows n c.run_round.new.sets) one_less
+          ∙ sym (rounds_more m rows (most - c.loop.counter) c.loop.sets c.run_round.new.sets true c.in-Some.ensures.after due refl)
+          ∙ c.loop.invariant.0,
+      c.in-Some.ensures.rest,
+    )

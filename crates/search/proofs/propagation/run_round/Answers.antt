@@ -1,36 +1,38 @@
-use Rattle.std.proofs.Common.{◌+◌, drop, sym, ap, ◌∙◌}
+use Rattle.std.proofs.Common.{◌≡◌, ℕ, ◌+◌, Option, is_some, drop, sym, ◌∙◌, subst}
 use Rattle.rows.specs.Views.{rows_of}
-use Rattle.search.specs.Propagation.{Round, round_from}
-use Rattle.search.proofs.Scans.{Turned, round_idle, round_more, round_stop, round_none}
+use Rattle.search.specs.Propagation.{round, round_from}
+use Rattle.search.proofs.Scans.{Turned, round_idle, round_more}
+use Rattle.search.proofs.Quiet.{Going, going_idle, going_ends}
 use Rattle.search.proofs.propagation.run_round.Goals as goal
 use Rattle.search.proofs.propagation.run_round.Goals.{then-turn+else-has_empty, else-turn}
 
-pub loop-row-preserved : goal.loop-row-preserved
-loop-row-preserved g c =
+pub loop-i-preserved : goal.loop-i-preserved
+loop-i-preserved g c =
     let m = g.B.Bank.meaning in
-    let w : Turned m c.args.rows.now c.loop-row.row-index c.row-item.result c.loop-row.sets c.turn.new.sets c.turn.result =
-    record { inside = c.loop-row-test.true; row_is = c.row-item.is; left = c.turn.ensures.after; told = c.turn.ensures.value } in
+    let rows = c.args.rows.now in
+    let i = c.loop-i.i in
+    let w : Turned m rows i c.index-rows-i.result c.loop-i.sets c.turn.new.sets c.turn.result =
+    record { inside = c.loop-i-test.true; row_is = c.index-rows-i.is; left = c.turn.ensures.after; told = c.turn.ensures.value } in
+    let left = λ (due : Option ℕ) (end : ℕ).
+    (round_from m (is_some due) (rows_of (drop (i + 1) rows)) c.turn.new.sets ≡ round m (rows_of rows) c.args.sets.now)
+    × Going m rows c.args.quiet (i + 1) c.turn.new.sets due end in
     elim c.if-turn.branch [
-      | then-turn+else-has_empty v ↦ ap (λ b. round_from m b (rows_of (drop (c.loop-row.row-index + 1) c.args.rows.now)) c.turn.new.sets) v.again-is
-          ∙ sym (round_more m c.loop-row.again c.args.rows.now c.loop-row.row-index c.row-item.result c.loop-row.sets c.turn.new.sets c.turn.result w v.if-turn.true
-          (sym v.has_empty.ensures ∙ v.if-has_empty.false))
-          ∙ c.loop-row.invariant
-      | else-turn v ↦ ap (λ b. round_from m b (rows_of (drop (c.loop-row.row-index + 1) c.args.rows.now)) c.turn.new.sets) v.again-is
-          ∙ sym (round_idle m c.loop-row.again c.args.rows.now c.loop-row.row-index c.row-item.result c.loop-row.sets c.turn.new.sets c.turn.result w v.if-turn.false)
-          ∙ c.loop-row.invariant
+      | then-turn+else-has_empty v ↦ subst (λ d. left d c.if-turn.end) (sym v.due-is) (
+        sym (round_more m (is_some c.loop-i.due) rows i c.index-rows-i.result c.loop-i.sets c.turn.new.sets c.turn.result w v.if-turn.true
+            (sym v.has_empty.ensures ∙ v.if-has_empty.false))
+            ∙ c.loop-i.invariant.0,
+        (v.end-is, λ h. h),
+      )
+      | else-turn v ↦ subst (λ d. left d c.if-turn.end) (sym v.due-is) (subst (left c.loop-i.due) (sym v.end-is) (
+        sym (round_idle m (is_some c.loop-i.due) rows i c.index-rows-i.result c.loop-i.sets c.turn.new.sets c.turn.result w v.if-turn.false)
+            ∙ c.loop-i.invariant.0,
+        going_idle m rows c.args.quiet i c.index-rows-i.result c.loop-i.sets c.turn.new.sets c.turn.result c.loop-i.due c.loop-i.end w v.if-turn.false c.loop-i.invariant.1,
+      ))
     ]
 
-pub returns-then-has_empty : goal.returns-then-has_empty
-returns-then-has_empty g c =
-    let m = g.B.Bank.meaning in
-    let w : Turned m c.args.rows.now c.loop-row.row-index c.row-item.result c.loop-row.sets c.turn.new.sets c.turn.result =
-    record { inside = c.loop-row-test.true; row_is = c.row-item.is; left = c.turn.ensures.after; told = c.turn.ensures.value } in
-    let e = sym (round_stop m c.loop-row.again c.args.rows.now c.loop-row.row-index c.row-item.result c.loop-row.sets c.turn.new.sets c.turn.result w c.if-turn.true
-    (sym c.if-has_empty.ensures))
-    ∙ c.loop-row.invariant in
-    record { after = ap (λ (x : Round). x.sets) e; value = ap (λ (x : Round). x.again) e }
-
-pub returns : goal.returns
-returns g c =
-    let e = sym (round_none g.B.Bank.meaning c.loop-row.again c.args.rows.now c.loop-row.row-index c.loop-row.sets c.loop-row-test.false) ∙ c.loop-row.invariant in
-    record { after = ap (λ (x : Round). x.sets) e; value = ap (λ (x : Round). x.again) e }
+pub returns-then-i-end : goal.returns-then-i-end
+returns-then-i-end g c =
+    let ended =
+    going_ends g.B.Bank.meaning c.args.rows.now c.args.quiet c.loop-i.i c.loop-i.sets c.loop-i.due c.loop-i.end (round g.B.Bank.meaning (rows_of c.args.rows.now) c.args.sets.now)
+    c.loop-i.invariant.1 c.if-i-end.true c.loop-i.invariant.0 in
+    record { after = ended.after; value = ended.value; rest = ended.rest }

@@ -1,7 +1,10 @@
-use Rattle.std.proofs.Common.{◌≡◌, drop}
+use Rattle.std.proofs.Common.{◌≡◌, drop, is_some}
 use Rattle.rows.specs.Views.{rows_of}
 use Rattle.search.specs.Propagation.{round, round_from}
+use Rattle.search.proofs.Quiet.{Going}
 use Rattle.search.proofs.propagation.run_round.Given as goal
 
-abbrev pub invariant-loop-row : goal.invariant-loop-row
-invariant-loop-row g l = round_from g.B.Bank.meaning l.again (rows_of (drop l.row-index l.rows)) l.sets ≡ round g.B.Bank.meaning (rows_of l.rows) l.initial.sets
+abbrev pub invariant-loop-i : goal.invariant-loop-i
+invariant-loop-i g l =
+    (round_from g.B.Bank.meaning (is_some l.due) (rows_of (drop l.i l.rows)) l.sets ≡ round g.B.Bank.meaning (rows_of l.rows) l.initial.sets)
+    × Going g.B.Bank.meaning l.rows l.quiet l.i l.sets l.due l.end
