@@ -1,2 +1,3 @@
 pub mod Writing
 pub mod Shelving
+pub mod Keeping

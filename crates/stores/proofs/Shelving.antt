@@ -1,14 +1,14 @@
 -- Keys behind their headers: reading back what was written, one key at a time, and one key more.
-use Rattle.std.proofs.Common.{◌≡◌, ℕ, zero, suc, ◌+◌, ◌-◌, ◌/◌, ◌%◌, ◌<◌, ◌≤◌, Bool, true, false, cond, ◌&&◌, ◌||◌, eqb, ltb, leb, ◌⊎◌, List, [], ◌∷◌, ◌++◌, length, get_or, take, drop, sym, refl, ap, ◌∙◌, subst, ap₂, inl, inr, le_refl, arith}
+use Rattle.std.proofs.Common.{◌≡◌, ℕ, zero, suc, ◌+◌, ◌-◌, ◌/◌, ◌%◌, ◌<◌, ◌≤◌, Bool, true, false, ◌&&◌, ◌||◌, eqb, ltb, leb, ◌⊎◌, List, [], ◌∷◌, ◌++◌, length, get_or, take, drop, sym, refl, ap, ◌∙◌, subst, ap₂, inl, inr, le_refl, arith}
 use Rattle.std.proofs.lemmas.Nat.{mod-mul-add}
 use Rattle.std.proofs.lemmas.List.{take_at, take_all, drop_at, append_assoc, append-nil, append_cancel_left, take-append-drop, length-take, length-take-le, length-drop, length-append}
-use Rattle.std.proofs.lemmas.Bool.{and_from, cases_Bool, or_right, and_right, lt-ltb, lt-leb, le-leb}
+use Rattle.std.proofs.lemmas.Bool.{cases_Bool, and_right, lt-leb}
 use Rattle.std.specs.Str.{bytes_eq}
 use Rattle.sets.specs.Placings.{same}
 use Rattle.stores.specs.Stores.{member, Joined, Keeps, fits}
-use Rattle.stores.specs.Shelves.{hash_from, header, written, keys_in, shelved, Whole, shelf_view, shelf_keep, shelf_after}
-use Rattle.stores.specs.declared.store.Stored.{Stored}
-use Rattle.stores.specs.declared.store.Stored.TheVariants.{Kept, Lost}
+use Rattle.stores.specs.Shelves.{hash_from, header, written, keys_in, shelved, Whole, room_of, shelf_view}
+use Rattle.stores.specs.declared.store.Stored.TheVariants.{Kept}
+use Rattle.stores.proofs.Keeping.{Fitting, fitting}
 use Rattle.sets.proofs.Lists.{same_is}
 
 -- ---- the same words
@@ -167,70 +167,49 @@ joined_by ws k room w h = record {
   count = ap length (shelved_push ws k w h) ∙ length_one_more (shelved ws) k;
 }
 
--- ---- the three ways of keeping a key, over the words `all` of which the first `used` hold keys
-
--- what keeping k answers and leaves: the first words, all words, and the relation that a store owes
-pub record Told (ws all : List ℕ) (room : ℕ) (k : List ℕ) (answer : Stored) (vs rest : List ℕ) : Type 0 where
-  pub keeps : Keeps (shelf_view ws room) k answer (shelf_view vs room)
-  pub value : answer ≡ shelf_keep ws room k
-  pub after : vs ≡ shelf_after ws room k
-  pub words : rest ≡ vs ++ drop (length vs) all
-
-whole_list : (all : List ℕ) (used : ℕ) → used ≤ length all → all ≡ take used all ++ drop (length (take used all)) all
-whole_list all used h = sym (ap (λ (n : ℕ). take used all ++ drop n all) (length-take-le used all h) ∙ take-append-drop used all)
-
-pub told_again : (all : List ℕ) (used room : ℕ) (k : List ℕ) → used ≤ length all → member k (shelved (take used all)) ≡ true
-    → Told (take used all) all room k Kept (take used all) all
-told_again all used room k h e = record {
-  keeps = Keeps.again e;
-  value = ap (λ (b : Bool). cond b Kept (cond (fits (length k) (room - length (take used all) - 1)) Kept Lost)) (sym e);
-  after = ap (λ (b : Bool). cond b (take used all) (cond (fits (length k) (room - length (take used all) - 1)) (take used all ++ (header k ∷ k)) (take used all))) (sym e);
-  words = whole_list all used h;
-}
-
-pub told_lost : (all : List ℕ) (used room : ℕ) (k : List ℕ) → used ≤ length all → member k (shelved (take used all)) ≡ false → fits (length k) (room - length (take used all) - 1) ≡ false
-    → Told (take used all) all room k Lost (take used all) all
-told_lost all used room k h e f = record {
-  keeps = Keeps.loses (shelf_view (take used all) room) e f (λ x m. or_right (same x k) (member x (shelved (take used all))) m) (λ _. refl);
-  value = ap₂ (λ (b c : Bool). cond b Kept (cond c Kept Lost)) (sym e) (sym f);
-  after = ap₂ (λ (b c : Bool). cond b (take used all) (cond c (take used all ++ (header k ∷ k)) (take used all))) (sym e) (sym f);
-  words = whole_list all used h;
-}
-
 -- how long the words are with one key more
-pub pushed_length : (all : List ℕ) (used : ℕ) (k : List ℕ) → used ≤ length all → length (take used all ++ (header k ∷ k)) ≡ used + 1 + length k
+pushed_length : (all : List ℕ) (used : ℕ) (k : List ℕ) → used ≤ length all → length (take used all ++ (header k ∷ k)) ≡ used + 1 + length k
 pushed_length all used k h = length-append (take used all) (header k ∷ k) ∙ omega (arith, length-take-le used all h)
 
-pub told_joins : (all rest : List ℕ) (used room : ℕ) (k vs : List ℕ) → used ≤ length all → Whole (take used all) → length k < 65536
-    → member k (shelved (take used all)) ≡ false → fits (length k) (room - length (take used all) - 1) ≡ true
-    → vs ≡ take used all ++ (header k ∷ k) → rest ≡ (take used all ++ (header k ∷ k)) ++ drop (used + 1 + length k) all
-    → Told (take used all) all room k Kept vs rest
-told_joins all rest used room k vs h w l e f d g = record {
-  keeps = subst (λ (x : List ℕ). Keeps (shelf_view (take used all) room) k Kept (shelf_view x room)) (sym d)
-      (Keeps.joins (shelf_view (take used all ++ (header k ∷ k)) room) e f (joined_by (take used all) k room w l));
-  value = ap₂ (λ (b c : Bool). cond b Kept (cond c Kept Lost)) (sym e) (sym f);
-  after = d ∙ ap₂ (λ (b c : Bool). cond b (take used all) (cond c (take used all ++ (header k ∷ k)) (take used all))) (sym e) (sym f);
-  words = g ∙ ap₂ (λ (x : List ℕ) (n : ℕ). x ++ drop n all) (sym d) (sym (ap length d ∙ pushed_length all used k h));
-}
+-- a key that fits was written behind the used words: those that are used then
+pub record Pushed (all rest : List ℕ) (used now : ℕ) (k : List ℕ) : Type 0 where
+  pub long : length rest ≡ length all
+  pub within : now ≤ room_of (length rest)
+  pub front : take now rest ≡ take used all ++ (header k ∷ k)
+  pub whole : Whole (take now rest)
+  pub keeps : member k (shelved (take used all)) ≡ false → Keeps (shelf_view (take used all) (room_of (length all))) k Kept (shelf_view (take now rest) (room_of (length rest)))
 
--- a key that is empty or too long does not fit, and another does
+pub pushed : (all rest : List ℕ) (used now : ℕ) (k : List ℕ) → used ≤ room_of (length all) → Whole (take used all)
+    → fits (length k) (room_of (length all) - length (take used all) - 1) ≡ true → now ≡ used + 1 + length k
+    → rest ≡ (take used all ++ (header k ∷ k)) ++ drop (used + 1 + length k) all → Pushed all rest used now k
+pushed all rest used now k h w f n e = record {
+  long = same_long;
+  within = omega (arith, roomy, same_long);
+  front = first;
+  whole = subst Whole (sym first) (whole_push (take used all) k w short);
+  keeps = λ m. subst (λ (x : List ℕ). Keeps (shelf_view (take used all) (room_of (length all))) k Kept (shelf_view x (room_of (length rest)))) (sym first)
+      (subst (λ (x : ℕ). Keeps (shelf_view (take used all) (room_of (length all))) k Kept (shelf_view (take used all ++ (header k ∷ k)) (room_of x))) (sym same_long)
+      (Keeps.joins (shelf_view (take used all ++ (header k ∷ k)) (room_of (length all))) m f (joined_by (take used all) k (room_of (length all)) w short)));
+}
+  where
+    fit : Fitting (length k) (room_of (length all) - length (take used all) - 1)
+    fit = fitting (length k) (room_of (length all) - length (take used all) - 1) f
+
+    roomy : used + 1 + length k ≤ room_of (length all)
+    roomy = omega (arith, fit.some, fit.within, length-take-le used all (omega arith))
+
+    short : length k < 65536
+    short = omega (arith, roomy)
+
+    same_long : length rest ≡ length all
+    same_long = ap length e ∙ length-append (take used all ++ (header k ∷ k)) (drop (used + 1 + length k) all)
+        ∙ omega (arith, roomy, pushed_length all used k (omega arith), length-drop (used + 1 + length k) all)
+
+    first : take now rest ≡ take used all ++ (header k ∷ k)
+    first = ap₂ take n e ∙ take_at (take used all ++ (header k ∷ k)) (drop (used + 1 + length k) all) (used + 1 + length k) (pushed_length all used k (omega arith))
+
+-- a key that is empty or too long does not fit
 pub fits_not : (n room used : ℕ) → (n ≡ 0) ⊎ (room - used ≤ n) → fits n (room - used - 1) ≡ false
 fits_not zero room used h = refl
 fits_not (suc n) room used (inl e) = absurd (omega arith)
 fits_not (suc n) room used (inr l) = and_right (ltb 0 (suc n)) (leb (suc n) (room - used - 1)) (lt-leb (suc n) (room - used - 1) (omega arith))
-
-pub fits_so : (n room used : ℕ) → (n ≡ 0 → ⊥) → n < room - used → fits n (room - used - 1) ≡ true
-fits_so n room used z l = and_from (ltb 0 n) (leb n (room - used - 1)) (lt-ltb 0 n (omega arith)) (le-leb n (room - used - 1) (omega arith))
-
--- the words after a key is written: the used ones, and how many there are
-pub record Grown (all rest : List ℕ) (used : ℕ) (k : List ℕ) : Type 0 where
-  pub front : take (used + 1 + length k) rest ≡ take used all ++ (header k ∷ k)
-  pub long : length rest ≡ length all
-
-pub grown : (all rest : List ℕ) (used : ℕ) (k : List ℕ) → used + 1 + length k ≤ length all
-    → rest ≡ (take used all ++ (header k ∷ k)) ++ drop (used + 1 + length k) all → Grown all rest used k
-grown all rest used k h e = record {
-  front = ap (take (used + 1 + length k)) e ∙ take_at (take used all ++ (header k ∷ k)) (drop (used + 1 + length k) all) (used + 1 + length k) (pushed_length all used k (omega arith));
-  long = ap length e ∙ length-append (take used all ++ (header k ∷ k)) (drop (used + 1 + length k) all)
-      ∙ omega (arith, pushed_length all used k (omega arith), length-drop (used + 1 + length k) all);
-}

@@ -1,6 +1,6 @@
 // The store that holds nothing.
-ghost use Rattle.std.specs.Prelude.{◌≡◌, []};
-ghost use Rattle.stores.specs.Stores.{Keeps};
+ghost use Rattle.std.specs.Prelude.{◌≡◌, IsTrue, [], true, false};
+ghost use Rattle.stores.specs.Stores.{Keeps, fits};
 ghost use Rattle.stores.specs.Bare.{nothing};
 ghost use Rattle.stores.specs.declared.store.Stored.TheVariants.{Lost};
 
@@ -16,6 +16,18 @@ impl Store for Bare {
 
     fn find(&self, key: &[u64]) -> bool {
         false
+    }
+
+    fn is_empty(&self) -> bool {
+        true
+    }
+
+    fn turns_away(&self, words: usize) -> bool
+        ensures turned { IsTrue result → (fits words nothing.space ≡ false) }
+        ensures value { result ≡ true }
+    {
+        // every key is lost
+        true
     }
 
     fn keep(&mut self, key: &[u64]) -> Stored

@@ -1,6 +1,6 @@
 // What a store of failed nodes' keys owes.
-ghost use Rattle.std.specs.Prelude.{◌≡◌, []};
-ghost use Rattle.stores.specs.Stores.{View, Keeps, member};
+ghost use Rattle.std.specs.Prelude.{◌≡◌, ◌↔◌, IsTrue, [], false};
+ghost use Rattle.stores.specs.Stores.{View, Keeps, member, fits};
 
 // What became of a key.
 #[derive(Clone, Copy, Debug, PartialEq, Eq)]
@@ -20,6 +20,14 @@ pub trait Store {
     // Whether the key is held.
     fn find(&self, key: &[u64]) -> bool
         ensures { result ≡ member key.now (view self.now).held };
+
+    // Whether no key is held, so that a lookup needs none.
+    fn is_empty(&self) -> bool
+        ensures { IsTrue result ↔ ((view self.now).held ≡ []) };
+
+    // Whether a key of so many words need not be given, as it would alter nothing. A store may answer no at any time.
+    fn turns_away(&self, words: usize) -> bool
+        ensures { IsTrue result → (fits words (view self.now).space ≡ false) };
 
     // Takes the key in if it is held already or fits.
     fn keep(&mut self, key: &[u64]) -> Stored

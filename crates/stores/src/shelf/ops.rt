@@ -1,6 +1,6 @@
 // What a shelf does.
-ghost use Rattle.std.specs.Prelude.{◌≡◌, ◌+◌, ◌<◌, ◌≤◌, [], ◌∷◌, ◌++◌, length, drop};
-ghost use Rattle.stores.specs.Stores.{Keeps, member};
+ghost use Rattle.std.specs.Prelude.{◌≡◌, ◌+◌, ◌<◌, ◌≤◌, [], ◌∷◌, ◌++◌, length, drop, IsTrue, false, not};
+ghost use Rattle.stores.specs.Stores.{Keeps, member, fits};
 ghost use Rattle.stores.specs.Shelves.{header, shelf_keep, shelf_after};
 ghost use Rattle.stores.specs.Shown.{used_words, room, view_of};
 
@@ -18,6 +18,13 @@ impl<'a> Shelf<'a> {
         ensures words { result.words.now ≡ words.old }
     {
         Shelf { words, used: 0 }
+    }
+
+    // Whether a key of so many words fits.
+    fn fits(&self, words: usize) -> bool
+        ensures { result ≡ fits words (view_of self.now).space }
+    {
+        words > 0 && words < self.words.len().min(MOST_WORDS) - self.used
     }
 
     // Writes the key behind its header, past the words that are used.
@@ -48,6 +55,17 @@ impl<'a> Store for Shelf<'a> {
         holds(&self.words[0..self.used], key)
     }
 
+    fn is_empty(&self) -> bool {
+        self.used == 0
+    }
+
+    fn turns_away(&self, words: usize) -> bool
+        ensures turned { IsTrue result → (fits words (view_of self.now).space ≡ false) }
+        ensures value { result ≡ not (fits words (view_of self.now).space) }
+    {
+        !self.fits(words)
+    }
+
     fn keep(&mut self, key: &[u64]) -> Stored
         ensures keeps { Keeps (view_of self.old) key.now result (view_of self.new) }
         ensures value { result ≡ shelf_keep (used_words self.old) (room self.old) key.now }
@@ -57,13 +75,11 @@ impl<'a> Store for Shelf<'a> {
         if self.find(key) {
             return Stored::Kept;
         }
-        let used = self.used;
-        let room = self.words.len().min(MOST_WORDS);
-        if key.is_empty() || key.len() >= room - used {
+        if !self.fits(key.len()) {
             return Stored::Lost;
         }
         self.write(key);
-        self.used = used + 1 + key.len();
+        self.used += 1 + key.len();
         Stored::Kept
     }
 }
