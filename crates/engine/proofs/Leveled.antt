@@ -1,11 +1,11 @@
 -- A stack of levels as it is held: what it is by its newest record, and what each step on it leaves.
 use Rattle.std.proofs.Common.{◌≡◌, ℕ, zero, suc, ◌+◌, ◌-◌, ◌*◌, ◌<◌, ◌≤◌, ◌≢◌, false, eqb, List, [], ◌∷◌, ◌++◌, length, get_or, take, drop, set, sym, refl, ap, ◌∙◌, subst, ap₂, ⊎_elim, suc-mul, arith, length-drop, length-set}
 use Rattle.std.proofs.lemmas.List.{take-take, drop-take, drop_at, take_at, take_all, length-take-le, get_or-set_same, get_or-set_other, get_or-take, get_or_append_left, get_or_push, length_push}
-use Rattle.std.proofs.lemmas.Bool.{cases_lt, cases_eq, ne_eqb, eqb-false}
+use Rattle.std.proofs.lemmas.Bool.{cases_lt, ne_eqb, eqb-false}
 use Rattle.sets.specs.Sets.{least, only}
-use Rattle.search.specs.Search.{Level, below, child}
+use Rattle.search.specs.Search.{Level, below}
 use Rattle.engine.specs.declared.level.LevelRecord.{LevelRecord}
-use Rattle.engine.specs.Levels.{no_record, level_at, first_levels, levels_at, is_none, is_spent, newest_sets, without_newest, next_sets, tried, Voiced}
+use Rattle.engine.specs.Levels.{no_record, level_at, first_levels, levels_at, is_none, newest_sets, without_newest, tried, Voiced}
 
 -- ---- a stack with no level, and one with some
 

@@ -3,14 +3,15 @@ ghost use Rattle.std.specs.Prelude.{◌≡◌, ◌+◌, ◌*◌, ◌≤◌, leng
 ghost use Rattle.rows.specs.Views.{rows_of};
 ghost use Rattle.search.specs.Limits.{most_voices, most_rows};
 ghost use Rattle.stores.specs.Keys.{key};
-ghost use Rattle.stores.specs.Stores.{member, Keeps};
+ghost use Rattle.stores.specs.Stores.{member};
+ghost use Rattle.engine.specs.Levels.{Given};
 
 use rows::bank::Bank;
 use rows::row::Row;
 use sets::ValueSet;
 use std::alloc::{AllocError, Global};
 use stores::key::write_key;
-use stores::store::{Store, Stored};
+use stores::store::Store;
 
 // The words of the longest key, of 80 voices and 120 rows.
 const KEY_WORDS: usize = 320;
@@ -32,7 +33,7 @@ impl KeyBuffer {
         Ok(KeyBuffer { words })
     }
 
-    // Whether the store holds the key of these sets.
+    // Whether the store holds the key of these sets. Where it holds none at all, the key is not written.
     pub(crate) fn find<B: Bank, S: Store>(
         &mut self,
         rows: &[Row],
@@ -43,26 +44,26 @@ impl KeyBuffer {
         requires rows { length rows.now ≤ most_rows }
         ensures { result ≡ member (key B.Bank.meaning (rows_of rows.now) sets.now) (S.Store.view store.now).held }
     {
+        if store.is_empty() {
+            return false;
+        }
         match write_key::<B>(rows, sets, &mut self.words) {
             Some(n) => store.find(&self.words[..n]),
             None => false,
         }
     }
 
-    // Gives the key of these sets to the store.
-    pub(crate) fn keep<B: Bank, S: Store>(
-        &mut self,
-        rows: &[Row],
-        sets: &[ValueSet],
-        store: &mut S,
-    ) -> Stored
+    // Gives the key of these sets to the store. Where that turns keys of this length away, the key is not written.
+    pub(crate) fn give<B: Bank, S: Store>(&mut self, rows: &[Row], sets: &[ValueSet], store: &mut S)
         requires sets { length sets.now ≤ most_voices }
         requires rows { length rows.now ≤ most_rows }
-        ensures { Keeps (S.Store.view store.old) (key B.Bank.meaning (rows_of rows.now) sets.now) result (S.Store.view store.new) }
+        ensures { Given (S.Store.view store.old) (key B.Bank.meaning (rows_of rows.now) sets.now) (S.Store.view store.new) }
     {
-        match write_key::<B>(rows, sets, &mut self.words) {
-            Some(n) => store.keep(&self.words[..n]),
-            None => Stored::Lost,
+        if store.turns_away(sets.len() + 2 * rows.len()) {
+            return;
+        }
+        if let Some(n) = write_key::<B>(rows, sets, &mut self.words) {
+            let _ = store.keep(&self.words[..n]);
         }
     }
 }

@@ -27,7 +27,7 @@ impl Levels {
     {
         let mut exhausted = 0;
         while self.is_spent() {
-            let _ = keys.keep::<B, S>(rows, self.newest_sets(), store);
+            keys.give::<B, S>(rows, self.newest_sets(), store);
             self.pop();
             exhausted += 1;
         }

@@ -1,9 +1,14 @@
-use Rattle.std.proofs.Common.{◌≤◌, length, arith}
+use Rattle.std.proofs.Common.{◌≤◌, length, refl, ap, sym, arith}
 use Rattle.rows.specs.Views.{rows_of}
 use Rattle.stores.specs.Keys.{key}
+use Rattle.stores.specs.Stores.{member}
 use Rattle.stores.proofs.Writing.{key_length}
 use Rattle.engine.proofs.Tests.{key_not}
 use Rattle.engine.proofs.keys.KeyBuffer.find.Goals as goal
+
+pub returns-then-is_empty : goal.returns-then-is_empty
+returns-then-is_empty g c =
+    sym (ap (member (key g.B.Bank.meaning (rows_of c.args.rows.now) c.args.sets.now)) (c.if-is_empty.ensures.0 refl))
 
 pub returns-in-None : goal.returns-in-None
 returns-in-None g c =

@@ -2,7 +2,7 @@ use Rattle.std.proofs.Common.{ℕ, ◌+◌, List, sym, refl, ◌∙◌, subst, a
 use Rattle.rows.specs.Views.{rows_of}
 use Rattle.search.specs.Search.{Level}
 use Rattle.stores.specs.Keys.{key}
-use Rattle.stores.specs.Stores.{Keeps}
+use Rattle.engine.specs.Levels.{Given}
 use Rattle.engine.specs.Stacks.{listed}
 use Rattle.engine.proofs.Backing.{Behind, behind_more, backed}
 use Rattle.engine.proofs.levels.Levels.back_up.Goals as goal
@@ -17,14 +17,14 @@ loop-keys-preserved g c =
     let start = listed c.args.self.now in
     let v = g.S.Store.view c.args.store.now in
     let w = g.S.Store.view c.loop-keys.store in
-    let x = g.S.Store.view c.keep.new.store in
-    let kept = subst (λ (y : List ℕ). Keeps w (key m rows y) c.keep.result x) c.newest_sets.ensures.value c.keep.ensures in
+    let x = g.S.Store.view c.give.new.store in
+    let given = subst (λ (y : List ℕ). Given w (key m rows y) x) c.newest_sets.ensures.value c.give.ensures in
     record {
       width = c.pop.ensures.width ∙ c.loop-keys.invariant.width;
       count = omega (arith, c.pop.ensures.count, c.loop-keys.invariant.count);
       behind = subst (λ (y : List Level). Behind m rows start v y x (c.loop-keys.exhausted + 1)) (sym c.pop.ensures.list)
-          (behind_more m rows start v (listed c.loop-keys.self) w x c.loop-keys.exhausted (c.loop-keys.exhausted + 1) c.keep.result
-          (sym c.is_spent.ensures ∙ c.loop-keys-test.true) refl kept c.loop-keys.invariant.behind);
+          (behind_more m rows start v (listed c.loop-keys.self) w x c.loop-keys.exhausted (c.loop-keys.exhausted + 1) given.0
+          (sym c.is_spent.ensures ∙ c.loop-keys-test.true) refl given.1 c.loop-keys.invariant.behind);
     }
 
 pub returns-clause-backs : goal.returns-clause-backs
