@@ -13,7 +13,7 @@ use Rattle.sets.specs.Sets.{has, fixed, least}
 use Rattle.all_different.specs.Differing.{spares, takes, used, all_placed}
 use Rattle.narrowing.specs.Shared.{at, cut, cuts, distinct, settled, open_with}
 use Rattle.sets.proofs.Masks.{mask_is, none_mask, has_not, has_or}
-use Rattle.sets.proofs.Membership.{fixed_least, has_only, has_mask, mask_below, same_sets, ones_zero, least_below}
+use Rattle.sets.proofs.Membership.{fixed_pos, fixed_least, has_only, has_mask, mask_below, same_sets, least_below}
 use Rattle.narrowing.proofs.Cuts.{Each, Small, cuts_small, cuts_narrower}
 use Rattle.all_different.specs.DifferingLaws.{any_map, set_of, has_set_of, set_of_below, count_distinct, takes_small, takes_narrower}
 use Rattle.narrowing.proofs.Narrowing.{cut_same, cut_whole, changed_then, cuts_more_one, cuts_flag}
@@ -168,16 +168,12 @@ used_placed ms s =
     same_sets 64 (used ms s) (set_of (placed ms s)) (used_below ms s) (set_of_below (placed ms s))
     (λ v l. has_mask 64 (λ v. list_any (gives s v) ms) v l ∙ any_placed ms s v ∙ sym (has_set_of (placed ms s) v l))
 
-fixed_some : (x : ℕ) → fixed x ≡ true → 0 < x
-fixed_some zero f = absurd (both_ways (fixed zero) (ap (λ (n : ℕ). eqb n 1) ones_zero) f)
-fixed_some (suc x) f = omega arith
-
 placed_below : (ms : List Member) (s : List ℕ) → Small s → Each (λ x. x < 64) (placed ms s)
 placed_below [] s h = tt
 placed_below (m ∷ ms) s h = go (fixed (at s m)) refl (placed_below ms s h)
   where
     go : (b : Bool) → fixed (at s m) ≡ b → Each (λ x. x < 64) (placed ms s) → Each (λ x. x < 64) (cond b (least (at s m) ∷ placed ms s) (placed ms s))
-    go true f d = (least_below (at s m) (fixed_some (at s m) f) (h m.voice), d)
+    go true f d = (least_below (at s m) (fixed_pos (at s m) f) (h m.voice), d)
     go false f d = d
 
 placed_most : (ms : List Member) (s : List ℕ) → length (placed ms s) ≤ length ms

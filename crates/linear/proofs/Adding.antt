@@ -1,15 +1,17 @@
 -- Sums of signed products that stay near 0.
-use Rattle.std.proofs.Common.{◌≡◌, ℕ, suc, ◌+◌, ◌*◌, ◌^◌, ◌<◌, ◌≤◌, Bool, true, false, cond, List, [], ◌∷◌, ◌++◌, length, get_or, take, ℤ, pos, negsuc, ◌+ℤ◌, ◌*ℤ◌, neg_ℤ, sym, refl, ap, ◌∙◌, ap₂, le_refl, arith, lit<, take_all, w16, w64, SFits, to_z, of_z}
-use lib.Signed.{le_z, non_neg}
+use Rattle.std.proofs.Common.{◌≡◌, ℕ, suc, ◌+◌, ◌*◌, ◌^◌, ◌<◌, ◌≤◌, Bool, true, false, cond, List, [], ◌∷◌, ◌++◌, length, get_or, take, ℤ, pos, negsuc, ◌+ℤ◌, ◌*ℤ◌, neg_ℤ, sym, ap, ◌∙◌, ap₂, le_refl, arith, lit<, take_all, w16, w64, SFits, to_z, of_z}
+use lib.Signed.{non_neg}
 use Rattle.std.proofs.lemmas.Nat.{mul-le, trailing_le}
 use Rattle.std.proofs.lemmas.List.{take_more}
 use Rattle.std.proofs.lemmas.Int.{ints, to_z-of_z}
 use Rattle.rows.specs.declared.row.Row.{Row}
 use Rattle.rows.specs.Views.{row_of}
 use Rattle.rows.specs.declared.member.Member.{Member}
-use Rattle.sets.specs.Sets.{least, greatest}
+use Rattle.sets.specs.Sets.{fixed, least, greatest}
 use Rattle.narrowing.specs.Shared.{at}
-use Rattle.linear.specs.Sums.{term, low, total, Near}
+use Rattle.linear.specs.Sums.{term, low, high, placed, total, Near}
+use Rattle.linear.specs.SumsLaws.{fixed_high}
+use Rattle.std.proofs.Math.IntN.{+ℤ_idr}
 
 -- a row has at most 32 members
 pub few_members : (r : Row) → length (row_of r).members ≤ 32
@@ -50,6 +52,13 @@ near_low s m f = go (non_neg m.argument)
     go true = near_term m (least (at s m)) f (trailing_le 64 (at s m))
     go false = near_term m (greatest (at s m)) f (omega arith)
 
+-- what it adds where it is fixed is its greatest, and 0 where it is not
+pub placed_fixed : (s : List ℕ) (m : Member) → at s m < 2 ^ 64 → fixed (at s m) ≡ true → high s m ≡ placed s m
+placed_fixed s m h f = fixed_high s m h f ∙ ap (λ b. cond b (term m (least (at s m))) (pos 0)) (sym f)
+
+pub placed_open : (s : List ℕ) (m : Member) → fixed (at s m) ≡ false → placed s m ≡ pos 0
+placed_open s m f = ap (λ b. cond b (term m (least (at s m))) (pos 0)) f
+
 -- ---- sums, one member on
 
 total_push : (f : Member → ℤ) (ms : List Member) (m : Member) → total f (ms ++ (m ∷ [])) ≡ (total f ms +ℤ f m)
@@ -63,7 +72,8 @@ total_more f ms i d h = ap (total f) (take_more ms i d h) ∙ total_push f (take
 abbrev pub Summed : (Member → ℤ) → List Member → ℕ → ℤ → Type 0
 Summed f ms i z = (z ≡ total f (take i ms)) × Near (2097152 * i) z
 
-back : (n : ℕ) (z : ℤ) → n < 2 ^ 63 → Near n z → to_z w64 (of_z w64 z) ≡ z
+-- and the code's number is that number
+pub back : (n : ℕ) (z : ℤ) → n < 2 ^ 63 → Near n z → to_z w64 (of_z w64 z) ≡ z
 back n z h k = to_z-of_z w64 z (near_fits n z h k)
 
 pub summed_fits : (i : ℕ) (z x : ℤ) → i < 32 → Near (2097152 * i) z → Near 2097152 x → SFits w64 (z +ℤ to_z w64 (of_z w64 x))
@@ -77,6 +87,13 @@ summed_more f ms i d z x l few h e k =
       s ∙ ap₂ ◌+ℤ◌ h.0 e ∙ sym (total_more f ms i d l),
       rw s (near_wider (2097152 * i + 2097152) (2097152 * (i + 1)) (z +ℤ x) (omega arith) (near_add (2097152 * i) 2097152 z x h.1 k)),
     )
+
+-- a member that adds nothing is passed over
+pub summed_on : (f : Member → ℤ) (ms : List Member) (i : ℕ) (d : Member) (z : ℤ) → i < length ms → f (get_or ms i d) ≡ pos 0 → Summed f ms i z → Summed f ms (i + 1) z
+summed_on f ms i d z l e h = (
+  h.0 ∙ sym (+ℤ_idr (total f (take i ms))) ∙ sym (total_more f ms i d l ∙ ap (λ x. total f (take i ms) +ℤ x) e),
+  near_wider (2097152 * i) (2097152 * (i + 1)) z (omega arith) h.1,
+)
 
 pub summed_all : (f : Member → ℤ) (ms : List Member) (i : ℕ) (z : ℤ) → i ≤ length ms → length ms ≤ i → length ms ≤ 32 → Summed f ms i z → (z ≡ total f ms) × Near 67108864 z
 summed_all f ms i z h l few s = (s.0 ∙ ap (total f) (take_all i ms l), near_wider (2097152 * i) 67108864 z (omega arith) s.1)

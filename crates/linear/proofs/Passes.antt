@@ -1,11 +1,12 @@
--- A turn in two passes: a list filled place by place, and then a run of cuts by masks.
-use Rattle.std.proofs.Common.{◌≡◌, ℕ, ◌+◌, ◌<◌, Bool, ◌||◌, List, [], ◌∷◌, ◌++◌, map, length, get_or, take, set, sym, ap, ◌∙◌, ap₂, arith, take_all}
-use Rattle.std.proofs.lemmas.List.{take_more_set, map_more, get_or-take, get_or-map}
+-- A turn in two passes: a list filled place by place, and then a run of cuts.
+use Rattle.std.proofs.Common.{◌≡◌, ℕ, zero, suc, replicate, ◌+◌, ◌<◌, Bool, ◌||◌, List, [], ◌∷◌, ◌++◌, map, length, get_or, take, set, ℤ, pos, inl, inr, sym, ap, ◌∙◌, ap₂, arith, take_all}
+use Rattle.std.proofs.lemmas.List.{take_more_set, map_more, get_or-take, get_or-map, get_or-set_same, get_or-set_other, set_past}
+use Rattle.std.proofs.lemmas.Int.{ints}
+use Rattle.std.proofs.lemmas.Bool.{cases_eq, cases_lt}
+use Rattle.linear.specs.Sums.{Near}
 use Rattle.rows.specs.declared.member.Member.{Member}
 use Rattle.sets.specs.Placings.{changed}
-use Rattle.sets.specs.Sets.{has, mask}
 use Rattle.narrowing.specs.Shared.{cut, cuts}
-use Rattle.sets.proofs.Membership.{has_mask}
 use Rattle.narrowing.proofs.Cuts.{Small}
 use Rattle.narrowing.proofs.Narrowing.{cut_same, cuts_more_one, cuts_flag}
 
@@ -21,15 +22,28 @@ filled_all f ms xs i h e = ap (λ n. take n xs) (sym h) ∙ e ∙ ap (map f) (ta
 pub filled_at : {B : Type 0} (f : Member → B) (ms : List Member) (xs : List B) (i : ℕ) (d : Member) (b : B) → i < length ms → take (length ms) xs ≡ map f ms → get_or xs i b ≡ f (get_or ms i d)
 filled_at f ms xs i d b h e = sym (get_or-take (length ms) xs i b h) ∙ ap (λ l. get_or l i b) e ∙ get_or-map f ms i d b h
 
--- ---- a run of cuts by masks, one member on: the sets, and whether one changed
-pub masked_more : (f : Member → ℕ → Bool) (ms : List Member) (i : ℕ) (d : Member) (first before after : List ℕ) (kept : ℕ) (took took_now : Bool) → Small first → i < length ms
-    → (before ≡ cuts f (take i ms) first) × (took ≡ changed before first) → kept ≡ mask 64 (f (get_or ms i d)) → after ≡ cut (get_or ms i d).voice (has kept) before → took_now ≡ changed after before
+pub near_zeros : (n k : ℕ) → Near 2097152 (get_or (replicate n (pos 0)) k (pos 0))
+near_zeros zero k = record { above = omega (arith, ints); below = omega (arith, ints) }
+near_zeros (suc n) zero = record { above = omega (arith, ints); below = omega (arith, ints) }
+near_zeros (suc n) (suc k) = near_zeros n k
+
+-- a number near 0 more in a list of such
+pub near_more : (n : ℕ) (xs : List ℤ) (i : ℕ) (x : ℤ) → Near n x → ((k : ℕ) → Near n (get_or xs k (pos 0))) → (k : ℕ) → Near n (get_or (set xs i x) k (pos 0))
+near_more n xs i x h e k = elim (cases_eq k i) [
+  | inl q ↦ rw q (elim (cases_lt i (length xs)) [
+    | inl l ↦ rw (get_or-set_same xs i x (pos 0) l) h
+    | inr l ↦ rw (set_past xs i x l) (e i)
+  ])
+  | inr q ↦ rw (get_or-set_other xs i k x (pos 0) q) (e k)
+]
+
+-- ---- a run of cuts, one member on: the sets, and whether one changed
+pub cut_more : (f : Member → ℕ → Bool) (ms : List Member) (i : ℕ) (d : Member) (first before after : List ℕ) (g : ℕ → Bool) (took took_now : Bool) → Small first → i < length ms
+    → (before ≡ cuts f (take i ms) first) × (took ≡ changed before first) → ((v : ℕ) → g v ≡ f (get_or ms i d) v) → after ≡ cut (get_or ms i d).voice g before → took_now ≡ changed after before
     → (after ≡ cuts f (take (i + 1) ms) first) × ((took || took_now) ≡ changed after first)
-masked_more f ms i d first before after kept took took_now small h inv k a t =
+cut_more f ms i d first before after g took took_now small h inv k a t =
     let m = get_or ms i d in
-    let cut-once : after ≡ cut m.voice (f m) (cuts f (take i ms) first) =
-    a ∙ cut_same m.voice (has kept) (f m) before (λ v l. ap (λ x. has x v) k ∙ has_mask 64 (f m) v l) ∙ ap (cut m.voice (f m)) inv.0
-    in (
+    let cut-once : after ≡ cut m.voice (f m) (cuts f (take i ms) first) = a ∙ cut_same m.voice g (f m) before (λ v _. k v) ∙ ap (cut m.voice (f m)) inv.0 in (
       cut-once ∙ sym (cuts_more_one f ms i d first h),
       ap₂ ◌||◌ (inv.1 ∙ ap (λ x. changed x first) inv.0) (t ∙ ap₂ changed cut-once inv.0)
           ∙ cuts_flag f (take i ms) first m.voice (f m) small ∙ sym (ap (λ x. changed x first) cut-once),

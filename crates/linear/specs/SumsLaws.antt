@@ -14,7 +14,7 @@ use Rattle.std.specs.List.{list_all}
 use Rattle.sets.specs.Sets.{has, fixed, least, greatest}
 use Rattle.narrowing.specs.Shared.{at, cut, cuts, shaped, declared, settled, open_with}
 use Rattle.linear.specs.Sums.{bound, total, term, low, high, within, linear, linear_rule}
-use Rattle.sets.proofs.Membership.{has_least, has_greatest, least_first, greatest_last, fixed_member}
+use Rattle.sets.proofs.Membership.{has_least, has_greatest, least_first, greatest_last, fixed_pos, fixed_member}
 use Rattle.narrowing.proofs.Cuts.{Each, all_each, each_map, each_both, Declared, Small, proper_small, fixed_place, cuts_small, cuts_narrower, cuts_within, cuts_more, cuts_nothing}
 use Rattle.narrowing.proofs.Members.{lettered_by, shaped_by, verdict_parts, stays_verdict, accepted_members, shaped_long, at_more, fixed_value, value_below, Twins, twins, at_twins, same_mark, same_content, checks_by}
 use Rattle.sets.proofs.Lists.{value_place}
@@ -81,7 +81,7 @@ low_le s m v h e = go (non_neg m.argument) refl
     go true k = times_up m.argument (least (at s m)) v k (least_first (at s m) v (h m.voice) e)
     go false k = times_down m.argument v (greatest (at s m)) k (greatest_last (at s m) v (h m.voice) e)
 
-high_ge : (s : List ℕ) (m : Member) (v : ℕ) → Small s → has (at s m) v ≡ true → term m v ≤ℤ high s m
+pub high_ge : (s : List ℕ) (m : Member) (v : ℕ) → Small s → has (at s m) v ≡ true → term m v ≤ℤ high s m
 high_ge s m v h e = go (non_neg m.argument) refl
   where
     go : (b : Bool) → non_neg m.argument ≡ b → term m v ≤ℤ cond b (term m (greatest (at s m))) (term m (least (at s m)))
@@ -94,6 +94,13 @@ fixed_low s m p h f = go (non_neg m.argument)
     go : (b : Bool) → cond b (term m (least (at s m))) (term m (greatest (at s m))) ≡ term m (least (at s m))
     go true = refl
     go false = ap (term m) (fixed_member (at s m) (greatest (at s m)) h f (has_greatest (at s m) p h))
+
+pub fixed_high : (s : List ℕ) (m : Member) → at s m < 2 ^ 64 → fixed (at s m) ≡ true → high s m ≡ term m (least (at s m))
+fixed_high s m h f = go (non_neg m.argument)
+  where
+    go : (b : Bool) → cond b (term m (greatest (at s m))) (term m (least (at s m))) ≡ term m (least (at s m))
+    go true = ap (term m) (fixed_member (at s m) (greatest (at s m)) h f (has_greatest (at s m) (fixed_pos (at s m) f) h))
+    go false = refl
 
 -- ---- sums
 

@@ -1,13 +1,13 @@
 // The kind L: the sum of coefficient × value over a row's members is at most a bound.
 #![tactic(auto)]
 
-ghost use Rattle.std.specs.Prelude.{◌≡◌, refl, ℕ, ℤ, List, ◌*◌, ◌^◌, ◌≤◌, map, length, take, pos, ◌*ℤ◌, int_le, nat_le, unsigned_abs, if◌then◌else◌};
+ghost use Rattle.std.specs.Prelude.{◌≡◌, refl, ℕ, true, ◌*◌, ◌^◌, map, length, take, pos, ◌-ℤ◌, ◌*ℤ◌, int_le, nat_le, slice_index_or, unsigned_abs, if◌then◌else◌};
 ghost use Rattle.sets.specs.Sets.{mask, least, greatest};
-ghost use Rattle.narrowing.specs.Shared.{at};
-ghost use Rattle.rows.specs.declared.member.Member.{Member};
+ghost use Rattle.sets.specs.Placings.{changed};
+ghost use Rattle.narrowing.specs.Shared.{at, cut};
 ghost use Rattle.std.specs.List.{list_all};
 ghost use Rattle.rows.specs.Views.{row_of};
-ghost use Rattle.linear.specs.Sums.{bound as bound_of, low, high, placed as placed_of, term, total, linear_rule, linear, Near};
+ghost use Rattle.linear.specs.Sums.{bound as bound_of, low, high, placed, term, total, linear_rule, linear, Near};
 ghost use Rattle.linear.specs.SumsLaws.{linear_lawful};
 
 use narrowing::{are_declared, is_shaped, judge, keep_only, set_of};
@@ -16,7 +16,7 @@ use rows::kind::Kind;
 use rows::member::Member;
 use rows::row::{MOST_MEMBERS, Row};
 use rows::trace::Trace;
-use sets::ValueSet;
+use sets::{ValueSet, greatest_value, is_fixed, least_value};
 
 // The largest coefficient, whatever its sign.
 const LARGEST_COEFFICIENT: u16 = 1_000;
@@ -44,77 +44,52 @@ fn product(coefficient: i16, value: u32) -> i64
     i64::from(coefficient) * i64::from(value)
 }
 
-// What a member adds to a sum, by the set of its voice: so little that no sum of a row's members overflows.
-trait Term {
-    ghost term: { List ℕ → Member → ℤ };
-
-    fn of(member: Member, sets: &[ValueSet]) -> i64
-        ensures value { result ≡ term sets.now member }
-        ensures near { Near (32768 * 64) result };
-}
-
-// Coefficient × a value of the member's set: the greatest where `upper`, otherwise the least. (A flag: the two are one test apart, and a function for each would be
-// twice the same.)
-fn at_end(member: Member, sets: &[ValueSet], upper: bool) -> i64
-    ensures value { result ≡ term member (if upper then greatest (at sets.now member) else least (at sets.now member)) }
+// The greatest that a member adds with a value of its set.
+fn highest(member: Member, sets: &[ValueSet]) -> i64
+    ensures value { result ≡ high sets.now member }
     ensures near { Near (32768 * 64) result }
 {
     let set = set_of(sets, member.voice);
-    if upper {
-        product(member.argument, sets::greatest_value(set))
+    if member.argument >= 0 {
+        product(member.argument, greatest_value(set))
     } else {
-        product(member.argument, sets::least_value(set))
+        product(member.argument, least_value(set))
     }
 }
 
-// The least that a member adds with a value of its set.
-struct Lowest;
-
-impl Term for Lowest {
-    ghost term = { low };
-
-    fn of(member: Member, sets: &[ValueSet]) -> i64 {
-        at_end(member, sets, member.argument < 0)
+// The least and the greatest that a member adds with a value of its set. (Both products before the test: so there is no branch.)
+fn ends(member: Member, sets: &[ValueSet]) -> (i64, i64)
+    ensures low { result.0 ≡ low sets.now member }
+    ensures high { result.1 ≡ high sets.now member }
+    ensures low_near { Near (32768 * 64) result.0 }
+    ensures high_near { Near (32768 * 64) result.1 }
+{
+    let set = set_of(sets, member.voice);
+    let by_least = product(member.argument, least_value(set));
+    let by_greatest = product(member.argument, greatest_value(set));
+    if member.argument >= 0 {
+        (by_least, by_greatest)
+    } else {
+        (by_greatest, by_least)
     }
 }
 
-// The greatest that a member adds with a value of its set.
-struct Highest;
-
-impl Term for Highest {
-    ghost term = { high };
-
-    fn of(member: Member, sets: &[ValueSet]) -> i64 {
-        at_end(member, sets, member.argument >= 0)
-    }
-}
-
-// What a member adds where it is fixed, 0 where it is not.
-struct Placed;
-
-impl Term for Placed {
-    ghost term = { placed_of };
-
-    fn of(member: Member, sets: &[ValueSet]) -> i64 {
-        let set = set_of(sets, member.voice);
-        if sets::is_fixed(set) {
-            product(member.argument, sets::least_value(set))
-        } else {
-            0
+// The sum of the greatest that each member adds, and the sum of what the fixed ones add, which is their greatest. (A loop: `sum` of signed numbers has no bound.)
+fn sums(row: &Row, sets: &[ValueSet]) -> (i64, i64)
+    ensures greatest { result.0 ≡ total (high sets.now) (row_of row.now).members }
+    ensures placed { result.1 ≡ total (placed sets.now) (row_of row.now).members }
+    ensures near { Near (32 * 32768 * 64) result.1 }
+{
+    let mut greatest = 0;
+    let mut placed = 0;
+    for m in row.members() {
+        let term = highest(*m, sets);
+        greatest += term;
+        if is_fixed(set_of(sets, m.voice)) {
+            placed += term;
         }
     }
-}
-
-// The sum of what each member adds. (A loop: `sum` of signed numbers has no bound.)
-fn sum_of<T: Term>(row: &Row, sets: &[ValueSet]) -> i64
-    ensures value { result ≡ total (T.Term.term sets.now) (row_of row.now).members }
-    ensures near { Near (32 * 32768 * 64) result }
-{
-    let mut sum = 0;
-    for m in row.members() {
-        sum += T::of(*m, sets);
-    }
-    sum
+    (greatest, placed)
 }
 
 // The values with which coefficient × value is at most the slack.
@@ -136,23 +111,38 @@ fn values_within(coefficient: i16, slack: i64) -> ValueSet
     }
 }
 
-// The least that each member adds, in order, and the sum of these: terms and sum in one pass, since most of a turn is spent here, and the terms in an array beside the
-// members, since a turn takes no memory.
-fn lowest_terms(row: &Row, sets: &[ValueSet]) -> ([i64; MOST_MEMBERS], i64)
+// Of a member's set only the values stay with which it adds at most the slack; says whether one went. The division is made only where one has to go.
+fn keep_within(member: Member, sets: &mut [ValueSet], slack: i64) -> bool
+    ensures after { sets.new ≡ cut member.voice (λ v. int_le (term member v) slack) sets.old }
+    ensures value { result ≡ changed sets.new sets.old }
+{
+    if highest(member, sets) <= slack {
+        return false;
+    }
+    keep_only(sets, member.voice, values_within(member.argument, slack))
+}
+
+// The least that each member adds, in order, the sum of these, and a number that no member's greatest is further above its least. All in one pass, since most of a
+// turn is spent here, and the terms in an array beside the members, since a turn takes no memory.
+fn lowest_terms(row: &Row, sets: &[ValueSet]) -> ([i64; MOST_MEMBERS], i64, i64)
     ensures long { length result.0 ≡ 32 }
     ensures terms { take (length (row_of row.now).members) result.0 ≡ map (low sets.now) (row_of row.now).members }
+    ensures small { (k : ℕ) → Near (32768 * 64) (slice_index_or result.0 k (pos 0)) }
     ensures sum { result.1 ≡ total (low sets.now) (row_of row.now).members }
     ensures near { Near (32 * 32768 * 64) result.1 }
+    ensures widest { list_all (λ m. int_le (high sets.now m -ℤ low sets.now m) result.2) (row_of row.now).members ≡ true }
 {
     let mut lows = [0; MOST_MEMBERS];
     let mut sum = 0;
+    let mut widest = 0;
     // by index: what is known of a term is known by its member's place
     for (i, m) in row.members().iter().enumerate() {
-        let term = Lowest::of(*m, sets);
-        lows[i] = term;
-        sum += term;
+        let (low, high) = ends(*m, sets);
+        lows[i] = low;
+        sum += low;
+        widest = widest.max(high - low);
     }
-    (lows, sum)
+    (lows, sum, widest)
 }
 
 // Whether the coefficients are all from -1,000 to 1,000.
@@ -203,22 +193,27 @@ impl Kind for Linear {
     // The least terms are those of the sets at the start of the turn: what it takes for one member does not count for the next, though a voice may
     // stand twice.
     fn turn(row: &Row, sets: &mut [ValueSet]) -> bool {
-        let (lows, sum) = lowest_terms(row, sets);
+        let (lows, sum, widest) = lowest_terms(row, sets);
         let spare = bound(row) - sum;
+        // no member's greatest passes its slack: nothing has to go
+        if widest <= spare {
+            return false;
+        }
         let mut took = false;
-        // by index: what `keep_only` needs of a term is known by the member's place
+        // by index: what `keep_within` needs of a term is known by the member's place
         for (i, m) in row.members().iter().enumerate() {
-            took |= keep_only(sets, m.voice, values_within(m.argument, spare + lows[i]));
+            took |= keep_within(*m, sets, spare + lows[i]);
         }
         took
     }
 
     fn trace(row: &Row, sets: &[ValueSet]) -> Trace {
-        if sum_of::<Highest>(row, sets) <= bound(row) {
+        let (greatest, placed) = sums(row, sets);
+        if greatest <= bound(row) {
             Trace::Settled
         } else {
-            let sum = sum_of::<Placed>(row, sets) + CONTENT_OF_ZERO;
-            Trace::Open(sum.unsigned_abs())
+            let content = placed + CONTENT_OF_ZERO;
+            Trace::Open(content.unsigned_abs())
         }
     }
 }

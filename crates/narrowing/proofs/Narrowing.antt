@@ -6,10 +6,10 @@ use Rattle.std.proofs.lemmas.Bool.{cases_Bool, both_ways, eq-eqb}
 use Rattle.rows.specs.declared.member.Member.{Member}
 use Rattle.sets.specs.Placings.{same, changed, Narrower}
 use Rattle.sets.specs.Sets.{has, sift}
-use Rattle.narrowing.specs.Shared.{cut, cuts}
+use Rattle.narrowing.specs.Shared.{at, cut, cuts}
 use Rattle.sets.proofs.Membership.{has_sift, sift_below, same_sets, sift_all}
 use Rattle.sets.proofs.Masks.{and_sift}
-use Rattle.narrowing.proofs.Cuts.{Small, squeezed, cuts_small, cuts_narrower, cut_narrower}
+use Rattle.narrowing.proofs.Cuts.{Each, Small, squeezed, cuts_small, cuts_narrower, cut_narrower}
 use Rattle.sets.proofs.Lists.{same_self, same_is}
 
 -- ---- the same list, and another
@@ -62,10 +62,17 @@ cut_same i f g s e =
     ap (set s i) (same_sets 64 (sift f (get_or s i 0)) (sift g (get_or s i 0)) (sift_below f (get_or s i 0)) (sift_below g (get_or s i 0))
     (λ v l. has_sift f (get_or s i 0) v l ∙ ap (λ (b : Bool). has (get_or s i 0) v && b) (e v l) ∙ sym (has_sift g (get_or s i 0) v l)))
 
--- a test that lets all pass changes nothing
-pub cut_whole : (i : ℕ) (f : ℕ → Bool) (s : List ℕ) → Small s → ((v : ℕ) → f v ≡ true) → cut i f s ≡ s
+-- a test that lets all of a set's values pass changes nothing
+pub cut_kept : (i : ℕ) (f : ℕ → Bool) (s : List ℕ) → Small s → ((v : ℕ) → has (get_or s i 0) v ≡ true → f v ≡ true) → cut i f s ≡ s
 unfolding cut
-cut_whole i f s h e = ap (set s i) (sift_all f (get_or s i 0) (h i) (λ v _. e v)) ∙ set-get_or s i 0
+cut_kept i f s h e = ap (set s i) (sift_all f (get_or s i 0) (h i) e) ∙ set-get_or s i 0
+
+pub cut_whole : (i : ℕ) (f : ℕ → Bool) (s : List ℕ) → Small s → ((v : ℕ) → f v ≡ true) → cut i f s ≡ s
+cut_whole i f s h e = cut_kept i f s h (λ v _. e v)
+
+pub cuts_kept : (f : Member → ℕ → Bool) (ms : List Member) (s : List ℕ) → Small s → Each (λ m. (v : ℕ) → has (at s m) v ≡ true → f m v ≡ true) ms → cuts f ms s ≡ s
+cuts_kept f [] s h e = refl
+cuts_kept f (m ∷ ms) s h e = ap (cuts f ms) (cut_kept m.voice (f m) s h e.0) ∙ cuts_kept f ms s h e.1
 
 pub cuts_push : (f : Member → ℕ → Bool) (ms : List Member) (m : Member) (s : List ℕ) → cuts f (ms ++ (m ∷ [])) s ≡ cut m.voice (f m) (cuts f ms s)
 cuts_push f [] m s = refl

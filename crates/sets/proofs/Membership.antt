@@ -1,9 +1,9 @@
 -- Sets of values as numbers: what `has`, `ones`, `least`, `greatest`, `only`, `mask` and a removal say of one another.
-use Rattle.std.proofs.Common.{◌≡◌, ℕ, zero, suc, ◌+◌, ◌-◌, ◌*◌, ◌/◌, ◌%◌, ◌^◌, ◌<◌, ◌≤◌, Bool, true, false, cond, not, ◌&&◌, eqb, ◌≢◌, ◌⊎◌, sym, refl, ap, ◌∙◌, subst, ap₂, inl, inr, suc-le-suc, zero-le, le_of_eq, lt_of_lt_of_le, le_of_suc-le-suc, lt_of_le_of_lt, mod-lt, le_antisymm, pow-suc, arith, lit<, pow_pos, pow_mono, shr-shr}
+use Rattle.std.proofs.Common.{◌≡◌, ℕ, zero, suc, ◌+◌, ◌-◌, ◌*◌, ◌/◌, ◌%◌, ◌^◌, ◌<◌, ◌≤◌, Bool, true, false, cond, not, ◌&&◌, eqb, ◌≢◌, ◌⊎◌, sym, refl, ap, ◌∙◌, subst, ap₂, inl, inr, suc-le-suc, zero-le, le_of_eq, lt_of_lt_of_le, le_of_suc-le-suc, mod-lt, le_antisymm, pow-suc, arith, lit<, pow_pos, pow_mono, shr-shr}
 use lib.Dec.{eqb-suc-suc}
 use lib.Arith.{lt_of_le-ne}
 use lib.Pow.{pow-lt}
-use lib.Bits.{bit_and, and_shr, and_mod, and_le_l}
+use lib.Bits.{bit_and, and_shr, and_mod}
 use lib.Count.{ones, count_trailing_zeros, under, ones_step, ones-le, leading_top}
 use Rattle.std.proofs.lemmas.Bool.{eqb-true, eqb-false, eq-eqb, ne_eqb, cases_lt, both_ways, and_parts, not-true}
 use Rattle.std.proofs.lemmas.Bool.Decides.{nat_tests}
@@ -258,7 +258,7 @@ fixed_is s v h f e =
     let l = has_below 64 s v h e in
     sym ((ones_part 64 (only v) s (only_below v l) h (only_part 64 s v h l e)).1 (ones_only v ∙ sym (eqb-true (ones s) 1 f)))
 
-fixed_pos : (s : ℕ) → fixed s ≡ true → 0 < s
+pub fixed_pos : (s : ℕ) → fixed s ≡ true → 0 < s
 fixed_pos zero f = absurd (none (eqb-true (ones zero) 1 f))
   where
     none : ones zero ≡ 1 → ⊥

@@ -40,7 +40,8 @@ pub fn least_value(set: ValueSet) -> u32
 pub fn greatest_value(set: ValueSet) -> u32
     ensures { result ≡ greatest set }
 {
-    63u32.saturating_sub(set.leading_zeros())
+    // the value 0 put in leaves the greatest as it is, or makes it 0
+    63 - (set | 1).leading_zeros()
 }
 
 // The only value of a set that is fixed.

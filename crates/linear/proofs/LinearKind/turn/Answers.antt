@@ -1,16 +1,13 @@
-use Rattle.std.proofs.Common.{◌≡◌, ◌<◌, length, get_or, pos, ◌*ℤ◌, sym, refl, ap, ◌∙◌, subst, ap₂, arith, take_all, w16, SFits, rules}
+use Rattle.std.proofs.Common.{◌≡◌, ◌<◌, length, get_or, pos, ◌-ℤ◌, ◌≤ℤ◌, sym, refl, ap, ◌∙◌, subst, arith, take_all, rules}
 use lib.Signed.{le_z}
 use Rattle.rows.specs.Views.{row_of}
-use Rattle.sets.specs.Sets.{has, mask}
-use Rattle.std.proofs.lemmas.Int.{to_z-of_z}
 use Rattle.narrowing.specs.Shared.{cut, cuts}
-use Rattle.linear.specs.Sums.{low, within, Near}
+use Rattle.linear.specs.Sums.{term, total, low, within}
 use Rattle.narrowing.proofs.Cuts.{Small}
 use Rattle.narrowing.proofs.Narrowing.{unchanged}
 use Rattle.narrowing.proofs.Scans.{nobody}
-use Rattle.linear.proofs.Adding.{near_low}
-use Rattle.linear.proofs.Passes.{filled_at, masked_more}
-use Rattle.linear.proofs.Slacks.{slack_fits, slack_is, mask_within}
+use Rattle.linear.proofs.Passes.{filled_at, cut_more}
+use Rattle.linear.proofs.Slacks.{slack_of, slack_fits, slack_is, spare_is, test_within, none_cut}
 use Rattle.linear.proofs.LinearKind.turn.Goals as goal
 
 pub loop-i-init : goal.loop-i-init
@@ -23,11 +20,8 @@ overflow_add-spare c =
     let ms = (row_of c.args.row.now).members in
     let same = c.members-m-items.ensures in
     let here : i < length ms = omega (arith, c.loop-i-test.true, ap length same) in
-    let m = get_or c.members-m-items.result.now i nobody in
-    let fits : SFits w16 m.argument = search rules in
     let l = get_or c.lowest_terms-sum.result.0 i (pos 0) in
-    let own : l ≡ low s m = filled_at (low s) ms c.lowest_terms-sum.result.0 i nobody (pos 0) here c.lowest_terms-sum.ensures.terms ∙ sym (ap (λ x. low s (get_or x i nobody)) same) in
-    slack_fits c.bound.result c.lowest_terms-sum.result.1 l c.bound.ensures.near c.lowest_terms-sum.ensures.near (subst (λ z. Near 2097152 z) (sym own) (near_low s m fits))
+    slack_fits c.bound.result c.lowest_terms-sum.result.1 l c.bound.ensures.near c.lowest_terms-sum.ensures.near (c.lowest_terms-sum.ensures.small i)
 
 pub loop-i-preserved : goal.loop-i-preserved
 loop-i-preserved c =
@@ -37,23 +31,17 @@ loop-i-preserved c =
     let ms = r.members in
     let same = c.members-m-items.ensures in
     let here : i < length ms = omega (arith, c.loop-i-test.true, ap length same) in
-    let small : Small s = search rules in
-    let m = get_or c.members-m-items.result.now i nobody in
-    let fits : SFits w16 m.argument = search rules in
+    let small : Small s = λ k. search rules in
+    let m = get_or ms i nobody in
     let b = c.bound.result in
     let t = c.lowest_terms-sum.result.1 in
     let l = get_or c.lowest_terms-sum.result.0 i (pos 0) in
-    let own : l ≡ low s m = filled_at (low s) ms c.lowest_terms-sum.result.0 i nobody (pos 0) here c.lowest_terms-sum.ensures.terms ∙ sym (ap (λ x. low s (get_or x i nobody)) same) in
-    let slack = slack_is b t l c.bound.ensures.near c.lowest_terms-sum.ensures.near (subst (λ z. Near 2097152 z) (sym own) (near_low s m fits)) in
-    let kept : c.values_within.result ≡ mask 64 (within r s (get_or ms i nobody)) =
-    c.values_within.ensures
-    ∙ ap₂ (λ x y. mask 64 (λ v. le_z (x *ℤ pos v) y)) (to_z-of_z w16 m.argument fits) slack
-    ∙ mask_within r s m b t l c.bound.ensures.value c.lowest_terms-sum.ensures.sum own
-    ∙ ap (λ x. mask 64 (within r s (get_or x i nobody))) same
-    in
-    masked_more (within r s) ms i nobody s c.loop-i.sets c.keep_only-took.new.sets c.values_within.result c.loop-i.took c.keep_only-took.result small here c.loop-i.invariant kept
-    (c.keep_only-took.ensures.after ∙ ap (λ x. cut (get_or x i nobody).voice (has c.values_within.result) c.loop-i.sets) same)
-    c.keep_only-took.ensures.value
+    let own : l ≡ low s m = filled_at (low s) ms c.lowest_terms-sum.result.0 i nobody (pos 0) here c.lowest_terms-sum.ensures.terms in
+    let slack = slack_is b t l c.bound.ensures.near c.lowest_terms-sum.ensures.near (c.lowest_terms-sum.ensures.small i) in
+    cut_more (within r s) ms i nobody s c.loop-i.sets c.keep_within-took.new.sets (λ v. le_z (term m v) (slack_of b t l)) c.loop-i.took c.keep_within-took.result small here c.loop-i.invariant
+    (λ v. ap (le_z (term m v)) slack ∙ test_within r s m b t l v c.bound.ensures.value c.lowest_terms-sum.ensures.sum own)
+    (c.keep_within-took.ensures.after ∙ ap (λ x. cut (get_or x i nobody).voice (λ v. le_z (term (get_or x i nobody) v) (slack_of b t l)) c.loop-i.sets) same)
+    c.keep_within-took.ensures.value
 
 pub returns : goal.returns
 returns c =
@@ -62,4 +50,18 @@ returns c =
     record {
       after = c.loop-i.invariant.0 ∙ ap (λ ms. cuts (within r c.args.sets.now) ms c.args.sets.now) (take_all c.loop-i.i r.members (omega (arith, c.loop-i-test.false)));
       value = c.loop-i.invariant.1;
+    }
+
+pub returns-then-widest-spare : goal.returns-then-widest-spare
+returns-then-widest-spare c =
+    let r = row_of c.args.row.now in
+    let s = c.args.sets.now in
+    let small : Small s = search rules in
+    record {
+      after = sym (none_cut r s c.lowest_terms-sum.result.2 small
+          (subst (λ b. c.lowest_terms-sum.result.2 ≤ℤ (b -ℤ total (low s) r.members)) c.bound.ensures.value
+          (subst (λ t. c.lowest_terms-sum.result.2 ≤ℤ (c.bound.result -ℤ t)) c.lowest_terms-sum.ensures.sum
+          (spare_is c.bound.result c.lowest_terms-sum.result.1 c.lowest_terms-sum.result.2 c.bound.ensures.near c.lowest_terms-sum.ensures.near (search rules) c.if-widest-spare.true)))
+          c.lowest_terms-sum.ensures.widest);
+      value = sym (unchanged s);
     }
