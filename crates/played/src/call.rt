@@ -1,4 +1,8 @@
 // The calls of a table and their answers, as values. An answer is printed as a line of text.
+ghost use Rattle.std.specs.Prelude.{Some};
+ghost use Rattle.std.specs.Fmt.{WritesOnOk};
+ghost use Rattle.played.specs.Printed.{spaced, answer_text};
+
 use planner::refusal::Refusal;
 use sets::ValueSet;
 use std::fmt;
@@ -31,7 +35,9 @@ pub enum Answer {
 }
 
 // Writes the numbers, a space before each.
-fn write_bytes<W: fmt::Write>(f: &mut fmt::Formatter<W>, bytes: &[u8]) -> fmt::Result {
+fn write_bytes<W: fmt::Write>(f: &mut fmt::Formatter<W>, bytes: &[u8]) -> fmt::Result
+    ensures { WritesOnOk W.write_str_gives f.old result (spaced bytes.now) f.new }
+{
     for b in bytes {
         write!(f, " {b}")?;
     }
@@ -39,6 +45,8 @@ fn write_bytes<W: fmt::Write>(f: &mut fmt::Formatter<W>, bytes: &[u8]) -> fmt::R
 }
 
 impl fmt::Display for Answer {
+    ghost output = { λ answer. Some (answer_text answer) };
+
     fn fmt<W: fmt::Write>(&self, f: &mut fmt::Formatter<W>) -> fmt::Result {
         match self {
             Answer::Done => f.write_str("done"),

@@ -1,0 +1,18 @@
+-- What an answer is printed as.
+use Rattle.std.specs.Prelude.{ℕ, List, ◌++◌, flat_map, codes, decimal, vec_items}
+use Rattle.planner.specs.Refusals.{refusal_number}
+use Rattle.played.specs.declared.call.Answer.{Answer}
+use Rattle.played.specs.declared.call.Answer.TheVariants.{Done, Refused, Found, None, Stopped, Wrote}
+
+-- numbers, a space before each
+abbrev pub spaced : List ℕ → List ℕ
+spaced numbers = flat_map (λ n. codes " " ++ decimal n) numbers
+
+-- as `found 1 3`, or `refused 13`, or `wrote 2: 1 3 0`
+abbrev pub answer_text : Answer → List ℕ
+answer_text Done = codes "done"
+answer_text (Refused refusal) = codes "refused " ++ decimal (refusal_number refusal)
+answer_text (Found values) = codes "found" ++ spaced (vec_items values)
+answer_text None = codes "none"
+answer_text Stopped = codes "stopped"
+answer_text (Wrote count bytes) = codes "wrote " ++ (decimal count ++ (codes ":" ++ spaced (vec_items bytes)))
