@@ -7,7 +7,7 @@ ghost use Rattle.writing.specs.Written.{Wrote};
 ghost use Rattle.search.specs.Limits.{most_voices};
 ghost use Rattle.planner.specs.Shown.{model, found_in};
 ghost use Rattle.sheets.specs.Loading.{load_answer};
-ghost use Rattle.sheets.specs.Saving.{save_answer, save_after};
+ghost use Rattle.sheets.specs.Saving.{written_answer, buffer_after};
 ghost use Rattle.report.specs.Texts.{table_text, report_text};
 
 use lines::{put_count, put_outcome, put_refusal, put_values};
@@ -74,8 +74,8 @@ pub fn report<B: Bank, S: Store>(
     table: &Table<B, S>,
     out: &mut [u8],
 ) -> Result<usize, Refusal>
-    ensures value { result ≡ save_answer (report_text (load_answer answer) (model table.now 0)) out.old }
-    ensures after { out.new ≡ save_after (report_text (load_answer answer) (model table.now 0)) out.old }
+    ensures value { result ≡ written_answer (report_text (load_answer answer) (model table.now 0)) out.old }
+    ensures after { out.new ≡ buffer_after (report_text (load_answer answer) (model table.now 0)) out.old }
 {
     let length = report_length(answer, table);
     if out.len() < length {

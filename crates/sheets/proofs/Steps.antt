@@ -8,15 +8,12 @@ use Rattle.stores.specs.Stores.{View}
 use Rattle.search.specs.Calls.{Table, begun, empty, Answer, Judgement, reasons, judged, Does}
 use Rattle.search.specs.Calls.Call.{declare, post, wipe}
 use Rattle.search.proofs.HistoryFacts.{none_fits}
-use Rattle.rows.specs.declared.fault.Fault.TheVariants as kind_fault
-use Rattle.rows.specs.declared.fault.RowFault.TheVariants as row_fault
 use Rattle.planner.specs.declared.refusal.Refusal.{Refusal}
-use Rattle.planner.specs.declared.refusal.Refusal.TheVariants as refusal
 use Rattle.planner.specs.Refusals.{refusal_number}
 use Rattle.sheets.specs.declared.fault.Cause.{Cause}
 use Rattle.sheets.specs.declared.fault.Cause.TheVariants.{Declined}
 use Rattle.sheets.specs.declared.fault.SheetFault.{SheetFault}
-use Rattle.sheets.specs.Causes.{layer_of, refusal_layer, cause_number, cause_layer, cause_offset}
+use Rattle.sheets.specs.Causes.{cause_number, cause_layer, cause_offset}
 use Rattle.sheets.specs.Reading.{Item, if_passes, item_at, Outcome, read_from, read_on, read_sheet}
 use Rattle.sheets.specs.Reading.Item.{last, voice, row, fault}
 use Rattle.sheets.specs.Reading.Outcome.{accepted, refused}
@@ -36,29 +33,13 @@ passed : (m : Meaning) (t u : Table) (w : View) (j : Judgement) (i : Item) (n : 
     → ItemRead m t (if_passes j i) (Ok (Some n)) u w
 passed m t u w j i n e f g h = subst (λ (x : Judgement). ItemRead m t (if_passes x i) (Ok (Some n)) u w) (sym e) (record { step = f; table = g; store = h })
 
--- a refusal and its number tell one layer
-layer_same : (r : Refusal) → refusal_layer r ≡ layer_of (refusal_number r)
-layer_same (refusal.Row row_fault.UnknownLetter) = refl
-layer_same (refusal.Row row_fault.BadCount) = refl
-layer_same (refusal.Row row_fault.WrongLength) = refl
-layer_same (refusal.Row row_fault.UnmarkedMember) = refl
-layer_same (refusal.Row (row_fault.Declined kind_fault.Undeclared)) = refl
-layer_same (refusal.Row (row_fault.Declined kind_fault.RuleBroken)) = refl
-layer_same refusal.EmptySet = refl
-layer_same refusal.VoicesFull = refl
-layer_same refusal.RowsFull = refl
-layer_same refusal.BudgetRange = refl
-layer_same refusal.NodesSpent = refl
-layer_same refusal.NothingFound = refl
-layer_same refusal.ShortBuffer = refl
-
 -- it was declined
 turned_down : (m : Meaning) (t u : Table) (v w : View) (j : Judgement) (i : Item) (r : Result (Option ℕ) Cause) (refusal : Refusal) → Unsearched t v → r ≡ Err (Declined refusal)
     → (j ≡ Judgement.declined (refusal_number refusal)) × (u ≡ t) × (w ≡ v) → ItemRead m t (if_passes j i) r (unlost u) w
 turned_down m t u v w j i r refusal U e d =
     subst (λ (x : Judgement). ItemRead m t (if_passes x i) r (unlost u) w) (sym d.0)
     (record {
-      step = ap step_of e ∙ ap (fails (refusal_number refusal) 0) (layer_same refusal);
+      step = ap step_of e;
       table = ap unlost d.1 ∙ ap unlost U.begins;
       store = ap (λ (x : View). x.held) d.2 ∙ U.holds;
     })

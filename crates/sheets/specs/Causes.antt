@@ -1,7 +1,5 @@
 -- The number and the layer of each reason to decline a sheet.
 use Rattle.std.specs.Prelude.{ℕ, cond, List, codes, nat_le}
-use Rattle.planner.specs.declared.refusal.Refusal.{Refusal}
-use Rattle.planner.specs.declared.refusal.Refusal.TheVariants as refusal
 use Rattle.planner.specs.Refusals.{refusal_number}
 use Rattle.sheets.specs.declared.fault.Cause.{Cause}
 use Rattle.sheets.specs.declared.fault.Cause.TheVariants.{NoRecord, LateVoice, Trailing, CutVoice, Declined}
@@ -18,17 +16,6 @@ layer_name Table = codes "table"
 abbrev pub layer_of : ℕ → Layer
 layer_of n = cond (nat_le 10 n) Table Row
 
--- the same of the refusal itself: a row's fault is the row's, each other the table's
-abbrev pub refusal_layer : Refusal → Layer
-refusal_layer (refusal.Row fault) = Row
-refusal_layer refusal.EmptySet = Table
-refusal_layer refusal.VoicesFull = Table
-refusal_layer refusal.RowsFull = Table
-refusal_layer refusal.BudgetRange = Table
-refusal_layer refusal.NodesSpent = Table
-refusal_layer refusal.NothingFound = Table
-refusal_layer refusal.ShortBuffer = Table
-
 abbrev pub cause_number : Cause → ℕ
 cause_number NoRecord = 1
 cause_number LateVoice = 3
@@ -41,7 +28,7 @@ cause_layer NoRecord = Sheet
 cause_layer LateVoice = Sheet
 cause_layer Trailing = Sheet
 cause_layer CutVoice = Sheet
-cause_layer (Declined refusal) = refusal_layer refusal
+cause_layer (Declined refusal) = layer_of (refusal_number refusal)
 
 -- how far from its record's first byte the place of a fault is: bytes that follow hex 5A are told by the first of them
 abbrev pub cause_offset : Cause → ℕ

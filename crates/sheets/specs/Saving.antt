@@ -25,8 +25,8 @@ abbrev pub LoadsAgain : Meaning → (ℕ → calls.Table) → View → Type 0
 LoadsAgain m t v = (h : List (Call × Answer)) (j : ℕ) → History m h (t j) v → read_sheet m (sheet (t 0).voices (t 0).rows) ≡ accepted (t 0).voices (t 0).rows
 
 -- Bytes written at the front of a buffer: how many, or that it is too short; and the buffer then, as it was beyond them, or all of it as it was.
-abbrev pub save_answer : List ℕ → List ℕ → Result ℕ Refusal
-save_answer bytes buffer = cond (nat_le (length bytes) (length buffer)) (Ok (length bytes)) (Err ShortBuffer)
+abbrev pub written_answer : List ℕ → List ℕ → Result ℕ Refusal
+written_answer bytes buffer = cond (nat_le (length bytes) (length buffer)) (Ok (length bytes)) (Err ShortBuffer)
 
-abbrev pub save_after : List ℕ → List ℕ → List ℕ
-save_after bytes buffer = cond (nat_le (length bytes) (length buffer)) (bytes ++ drop (length bytes) buffer) buffer
+abbrev pub buffer_after : List ℕ → List ℕ → List ℕ
+buffer_after bytes buffer = cond (nat_le (length bytes) (length buffer)) (bytes ++ drop (length bytes) buffer) buffer

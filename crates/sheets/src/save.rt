@@ -1,7 +1,7 @@
 // Tables saved as sheets.
 ghost use Rattle.std.specs.Prelude.{◌≡◌};
 ghost use Rattle.planner.specs.Shown.{model, store_in};
-ghost use Rattle.sheets.specs.Saving.{sheet_of, save_answer, save_after, LoadsAgain};
+ghost use Rattle.sheets.specs.Saving.{sheet_of, written_answer, buffer_after, LoadsAgain};
 
 use crate::marks::END_MARK;
 use crate::record::write_all;
@@ -13,8 +13,8 @@ use writing::writer::Writer;
 
 // Writes the table's sheet at the front of `out`, and answers its length; bytes beyond it stay.
 pub fn save<B: Bank, S: Store>(table: &Table<B, S>, out: &mut [u8]) -> Result<usize, Refusal>
-    ensures value { result ≡ save_answer (sheet_of table.now) out.old }
-    ensures after { out.new ≡ save_after (sheet_of table.now) out.old }
+    ensures value { result ≡ written_answer (sheet_of table.now) out.old }
+    ensures after { out.new ≡ buffer_after (sheet_of table.now) out.old }
     ensures again { LoadsAgain B.Bank.meaning (model table.now) (store_in S.Store.view table.now) }
 {
     let length = 9 * table.voices().len() + table.row_bytes() + 1;
