@@ -3,6 +3,7 @@ use Rattle.rows.specs.declared.bank.Bank as bank
 use Rattle.stores.specs.declared.store.Store as store
 use Rattle.std.proofs.Common.{◌≡◌, ℕ, ◌≤◌, Bool, true, false, cond, eqb, List, ◌∷◌, length, is_ok, Ok, Err, sym, refl, ap, ◌∙◌, subst}
 use Rattle.std.proofs.lemmas.Bool.{leb-true}
+use Rattle.rows.specs.Bytes.{counted}
 use Rattle.rows.specs.Rows.{Meaning}
 use Rattle.stores.specs.Stores.{View}
 use Rattle.writing.specs.Written.{written}
@@ -12,7 +13,7 @@ use Rattle.planner.specs.Shown.{CallDone, CallLasts}
 use Rattle.building.specs.declared.fault.BuildFault.{BuildFault}
 use Rattle.building.specs.declared.fault.BuildFault.TheVariants.{UnknownLetter, BadCount, WrongLength, ShortMemory}
 use Rattle.building.specs.declared.ticket.Ticket.{Ticket}
-use Rattle.building.specs.Building.{Verdict, checked, has_count, has_room, row_length, ticket_or_fault, new_ticket, begin_verdict, begin_answer, begin_memory}
+use Rattle.building.specs.Building.{Verdict, checked, has_room, row_length, ticket_or_fault, new_ticket, begin_verdict, begin_answer, begin_memory}
 use Rattle.building.specs.Closing.{Posts, PostLasts}
 
 -- ---- tests
@@ -38,8 +39,8 @@ pub begin_room : (m : Meaning) (letter : ℕ) (body : List ℕ) (room : ℕ) →
 begin_room m letter body room e =
     let last : Verdict = checked (has_room (new_ticket body) room) ShortMemory (Ok tt) in
     let third : Verdict = checked (eqb (length body) (m.body_length letter)) WrongLength last in
-    let a = checked_passed (m.known letter) UnknownLetter (checked (has_count body) BadCount third) e in
-    let b = checked_passed (has_count body) BadCount third a.1 in
+    let a = checked_passed (m.known letter) UnknownLetter (checked (counted (letter ∷ body)) BadCount third) e in
+    let b = checked_passed (counted (letter ∷ body)) BadCount third a.1 in
     let c = checked_passed (eqb (length body) (m.body_length letter)) WrongLength last b.1 in
     leb-true (row_length (new_ticket body)) room (checked_passed (has_room (new_ticket body) room) ShortMemory (Ok tt) c.1).0
 

@@ -1,6 +1,7 @@
 -- A row built step by step: what Begin and Member answer, and what they leave in memory.
-use Rattle.std.specs.Prelude.{ℕ, ◌+◌, ◌*◌, Bool, cond, ◌&&◌, List, [], ◌∷◌, length, ℤ, is_ok, Ok, Err, Result, ◌==◌, nat_le, nat_lt, slice_index}
+use Rattle.std.specs.Prelude.{ℕ, ◌+◌, ◌*◌, Bool, cond, List, [], ◌∷◌, length, ℤ, is_ok, Ok, Err, Result, ◌==◌, nat_le, nat_lt, slice_index}
 use Rattle.rows.specs.Rows.{Meaning}
+use Rattle.rows.specs.Bytes.{counted}
 use Rattle.writing.specs.Written.{written}
 use Rattle.writing.specs.WrittenRows.{written_members}
 use Rattle.building.specs.declared.fault.BuildFault.{BuildFault}
@@ -36,19 +37,15 @@ Verdict = Result Unit BuildFault
 abbrev pub checked : Bool → BuildFault → Verdict → Verdict
 checked test fault next = cond test next (Err fault)
 
--- the first byte of a body is there, and is 1 to 32
-abbrev pub has_count : List ℕ → Bool
-has_count body = nat_lt 0 (length body) && (nat_le 1 (slice_index body 0) && nat_le (slice_index body 0) 32)
-
 -- the row of the ticket fits the memory
 abbrev pub has_room : Ticket → ℕ → Bool
 has_room t room = nat_le (row_length t) room
 
--- Begin: the bank knows the letter, the count is right, the body is as long as the letter asks, and the row fits
+-- Begin: the bank knows the letter, the count is there and is 1 to 32, the body is as long as the letter asks, and the row fits
 abbrev pub begin_verdict : Meaning → ℕ → List ℕ → ℕ → Verdict
 begin_verdict m letter body room =
     checked (m.known letter) UnknownLetter
-    (checked (has_count body) BadCount
+    (checked (counted (letter ∷ body)) BadCount
     (checked (length body == m.body_length letter) WrongLength (checked (has_room (new_ticket body) room) ShortMemory (Ok tt))))
 
 -- Member: the row fits, and not all members are given
