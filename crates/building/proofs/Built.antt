@@ -6,6 +6,7 @@ use Rattle.std.proofs.lemmas.Bool.{leb-true, le-leb}
 use Rattle.std.proofs.lemmas.List.{take_all, length-append}
 use Rattle.rows.specs.declared.member.Member.{Member}
 use Rattle.rows.specs.Rows.{Meaning}
+use Rattle.rows.specs.Reading.{checked}
 use Rattle.writing.specs.Written.{written}
 use Rattle.writing.specs.WrittenRows.{written_members}
 use Rattle.writing.proofs.RowBytes.{members_length}
@@ -16,7 +17,7 @@ use Rattle.building.specs.declared.fault.BuildFault.{BuildFault}
 use Rattle.building.specs.declared.fault.BuildFault.TheVariants.{AllGiven, ShortMemory, MembersMissing}
 use Rattle.building.specs.declared.ticket.Ticket.{Ticket}
 use Rattle.building.specs.declared.ticket.Declined.{Declined}
-use Rattle.building.specs.Building.{Verdict, checked, row_length, next_place, new_ticket, further, begin_verdict, begin_answer, begin_memory, close_verdict}
+use Rattle.building.specs.Building.{Verdict, row_length, next_place, new_ticket, further, begin_verdict, begin_answer, begin_memory, close_verdict}
 use Rattle.building.specs.declared.ticket.CloseFault.{CloseFault}
 use Rattle.building.specs.declared.ticket.CloseFault.TheVariants.{HandedBack, Posting}
 use Rattle.building.specs.declared.refusal.BuildRefusal.{BuildRefusal}

@@ -3,6 +3,7 @@ use Rattle.std.proofs.Common.{◌≡◌, ℕ, ◌+◌, ◌*◌, ◌/◌, ◌%◌
 use Rattle.std.proofs.lemmas.Bool.{ltb-true, ltb-false, le-leb, lt-leb}
 use Rattle.std.proofs.lemmas.List.{take_more, take_all, length-take-le}
 use Rattle.rows.specs.declared.member.Member.{Member}
+use Rattle.rows.specs.Reading.{checked}
 use Rattle.writing.specs.Written.{written}
 use Rattle.writing.specs.WrittenRows.{written_members}
 use Rattle.writing.proofs.Places.{written_none}
@@ -11,7 +12,7 @@ use Rattle.building.specs.declared.fault.BuildFault.{BuildFault}
 use Rattle.building.specs.declared.fault.BuildFault.TheVariants.{AllGiven, ShortMemory}
 use Rattle.building.specs.declared.ticket.Ticket.{Ticket}
 use Rattle.building.specs.declared.ticket.Declined.{Declined}
-use Rattle.building.specs.Building.{Verdict, checked, row_length, next_place, further, further_or_back, member_verdict, member_answer, one_member, member_memory}
+use Rattle.building.specs.Building.{Verdict, row_length, next_place, further, further_or_back, member_verdict, member_answer, one_member, member_memory}
 use Rattle.building.specs.Whole.{left, members_answer, members_memory}
 use Rattle.building.proofs.Writings.{written_more, members_push}
 
@@ -29,11 +30,11 @@ given_back (Err f) t d e = (f, refl, cc)
 member_decided : (t : Ticket) (room : ℕ) → row_length t ≤ room → member_verdict t room ≡ checked (ltb t.given t.count) AllGiven (Ok tt)
 member_decided t room h = ap (λ b. checked b ShortMemory (checked (ltb t.given t.count) AllGiven (Ok tt))) (le-leb (row_length t) room h)
 
-count_passed : (b : Bool) → checked b AllGiven (Ok tt) ≡ Ok tt → b ≡ true
+count_passed : (b : Bool) → checked {A = Unit} b AllGiven (Ok tt) ≡ Ok tt → b ≡ true
 count_passed true e = refl
 count_passed false e = cc
 
-count_back : (b : Bool) (f : BuildFault) → checked b AllGiven (Ok tt) ≡ Err f → (b ≡ false) × (f ≡ AllGiven)
+count_back : (b : Bool) (f : BuildFault) → checked {A = Unit} b AllGiven (Ok tt) ≡ Err f → (b ≡ false) × (f ≡ AllGiven)
 count_back true f e = (cc, cc)
 count_back false f e = (refl, cc)
 

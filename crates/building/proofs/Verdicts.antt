@@ -5,6 +5,7 @@ use Rattle.std.proofs.Common.{◌≡◌, ℕ, ◌≤◌, Bool, true, false, cond
 use Rattle.std.proofs.lemmas.Bool.{leb-true}
 use Rattle.rows.specs.Bytes.{counted}
 use Rattle.rows.specs.Rows.{Meaning}
+use Rattle.rows.specs.Reading.{checked}
 use Rattle.stores.specs.Stores.{View}
 use Rattle.writing.specs.Written.{written}
 use Rattle.search.specs.Calls.{Call, Answer}
@@ -13,7 +14,7 @@ use Rattle.planner.specs.Shown.{CallDone, CallLasts}
 use Rattle.building.specs.declared.fault.BuildFault.{BuildFault}
 use Rattle.building.specs.declared.fault.BuildFault.TheVariants.{UnknownLetter, BadCount, WrongLength, ShortMemory}
 use Rattle.building.specs.declared.ticket.Ticket.{Ticket}
-use Rattle.building.specs.Building.{Verdict, checked, has_room, row_length, ticket_or_fault, new_ticket, begin_verdict, begin_answer, begin_memory}
+use Rattle.building.specs.Building.{Verdict, has_room, row_length, ticket_or_fault, new_ticket, begin_verdict, begin_answer, begin_memory}
 use Rattle.building.specs.Closing.{Posts, PostLasts}
 
 -- ---- tests

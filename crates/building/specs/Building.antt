@@ -2,6 +2,7 @@
 use Rattle.std.specs.Prelude.{ℕ, ◌+◌, ◌*◌, Bool, cond, List, [], ◌∷◌, length, ℤ, is_ok, Ok, Err, Result, ◌==◌, nat_le, nat_lt, slice_index}
 use Rattle.rows.specs.Rows.{Meaning}
 use Rattle.rows.specs.Bytes.{counted}
+use Rattle.rows.specs.Reading.{checked}
 use Rattle.writing.specs.Written.{written}
 use Rattle.writing.specs.WrittenRows.{written_members}
 use Rattle.building.specs.declared.fault.BuildFault.{BuildFault}
@@ -32,10 +33,6 @@ further n t = record { head = t.head; count = t.count; given = t.given + n }
 -- nothing is wrong, or the first fault
 abbrev pub Verdict : Type 0
 Verdict = Result Unit BuildFault
-
--- what comes next where the test holds, the fault where it does not
-abbrev pub checked : Bool → BuildFault → Verdict → Verdict
-checked test fault next = cond test next (Err fault)
 
 -- the row of the ticket fits the memory
 abbrev pub has_room : Ticket → ℕ → Bool

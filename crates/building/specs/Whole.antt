@@ -2,6 +2,7 @@
 use Rattle.std.specs.Prelude.{ℕ, ◌-◌, cond, List, length, take, is_ok, Ok, Err, Result, nat_le, slice_index}
 use Rattle.rows.specs.declared.member.Member.{Member}
 use Rattle.rows.specs.Rows.{Meaning}
+use Rattle.rows.specs.Reading.{checked}
 use Rattle.writing.specs.Written.{written}
 use Rattle.writing.specs.WrittenRows.{written_members, written_row}
 use Rattle.search.specs.Calls.{Answer}
@@ -13,7 +14,7 @@ use Rattle.building.specs.declared.ticket.Declined.{Declined}
 use Rattle.building.specs.declared.ticket.CloseFault.{CloseFault}
 use Rattle.building.specs.declared.ticket.CloseFault.TheVariants as closing
 use Rattle.building.specs.Numbers.{build_number}
-use Rattle.building.specs.Building.{Verdict, checked, begin_verdict, next_place, further}
+use Rattle.building.specs.Building.{Verdict, begin_verdict, next_place, further}
 
 -- ---- members given one after the other
 

@@ -6,7 +6,7 @@ use Rattle.rows.specs.Rows.{RowData, Meaning, Verdict}
 use Rattle.rows.specs.Bytes.{head_length, lettered, counted, long_enough, marked, decode, members_in}
 
 -- what comes next where the test holds, the fault where it does not
-abbrev pub checked : {A : Type 0} → Bool → RowFault → Result A RowFault → Result A RowFault
+abbrev pub checked : {A E : Type 0} → Bool → E → Result A E → Result A E
 checked test fault next = cond test next (Err fault)
 
 -- the first fault of the layout, and what comes next where there is none
