@@ -3,8 +3,8 @@
 //   search [plain] STORE [REPEATS [BUDGET..]] < SHEET
 //
 // STORE is `bare`, `shelf:WORDS` (the shelf's space, with an index of hashes for looking up) or `scan:WORDS` (the same space, looked through from the front).
-// With `plain` each row has its turn in every round, as the rules say it. Without, a row is passed over while the sets of its voices are as they were when
-// its last turn began: such a turn would change nothing, so that sets and counts are the same. Without budgets it is solved to its end.
+// With `plain` each row has its turn in every round and its trace in every key, as the rules say it. Without, a row is passed over while the sets of its voices
+// are as they were when its last turn began: such a turn would change nothing, so that sets and counts are the same. Without budgets it is solved to its end.
 #include <algorithm>
 #include <cstdint>
 #include <cstdio>
@@ -60,7 +60,7 @@ static uint64_t low_first(const uint8_t *bytes, int count) {
     return n;
 }
 
-// Whether a second turn of the row has nothing left to do: not where a fixed voice can come out of the turn, or where two members share a voice.
+// Whether a second turn may change something right after a first: where a voice can be fixed in the turn, or where two members share a voice.
 static bool changes_twice(const Row &row) {
     if (row.kind == 'A') return true;
     if (row.kind == 'C') return false;
@@ -376,14 +376,6 @@ template <class Store, bool plain> class Search {
     int depth = 0;
     bool begun = false;
 
-    static void take_turn(const Row &row, int number, Sets &sets) {
-        turn(row, sets);
-        if (!row.again && !plain) {
-            uint64_t own = uint64_t{1} << (number & 63);
-            (number < 64 ? sets.due.low : sets.due.high) &= ~own;
-        }
-    }
-
     // Rounds in which every row has its turn. Answers whether no set is empty.
     bool all_rounds(Sets &sets) const {
         do {
@@ -397,31 +389,47 @@ template <class Store, bool plain> class Search {
     }
 
     // Of one word of the mask, the rows that are due have their turns, in ascending order; those that come due behind it wait for the next round.
-    bool due_turns(uint64_t &due, int first, Sets &sets) const {
+    bool due_turns(uint64_t &due, uint64_t &asked, int first, Sets &sets) const {
         for (uint64_t ahead = ~uint64_t{0}; due & ahead;) {
             int i = least(due & ahead);
             ahead = ~uint64_t{1} << i;
             due &= ~(uint64_t{1} << i);
-            take_turn(sheet.rows[first + i], first + i, sets);
+            asked |= uint64_t{1} << i;
+            const Row &row = sheet.rows[first + i];
+            turn(row, sets);
+            if (!row.again) due &= ~(uint64_t{1} << i);
             if (sets.dead) return false;
         }
         return true;
     }
 
-    // Rounds in which those rows have their turns that are due.
-    bool due_rounds(Sets &sets) const {
+    // Rounds in which those rows have their turns that are due; notes which rows were asked.
+    bool due_rounds(Sets &sets, Rows &asked) const {
         while (sets.due.low | sets.due.high)
-            if (!due_turns(sets.due.low, 0, sets) || !due_turns(sets.due.high, 64, sets)) return false;
+            if (!due_turns(sets.due.low, asked.low, 0, sets) || !due_turns(sets.due.high, asked.high, 64, sets)) return false;
         return true;
     }
 
-    void write_key(Level &level) const {
+    void write_trace(Level &level, int row) const {
+        Trace t = trace(sheet.rows[row], level.set);
+        uint64_t *word = level.key.word + voices + 2 * row;
+        word[0] = t.mark, word[1] = t.content;
+    }
+
+    // Writes the traces of the rows that were asked; the others' are the parent's, since their voices' sets are.
+    void write_asked_traces(const Level *parent, Level &level, Rows asked) const {
+        if (parent) memcpy(level.key.word + voices, parent->key.word + voices, sizeof(uint64_t) * 2 * rows);
+        for (; asked.low; asked.low &= asked.low - 1) write_trace(level, least(asked.low));
+        for (; asked.high; asked.high &= asked.high - 1) write_trace(level, 64 + least(asked.high));
+    }
+
+    void write_key(const Level *parent, Level &level, const Rows &asked) const {
         uint64_t *word = level.key.word;
         for (int i = 0; i < voices; i++) word[i] = many(level.set[i]) ? level.set[i] : 0;
-        for (int i = 0; i < rows; i++) {
-            Trace t = trace(sheet.rows[i], level.set);
-            word[voices + 2 * i] = t.mark, word[voices + 2 * i + 1] = t.content;
-        }
+        if (plain)
+            for (int i = 0; i < rows; i++) write_trace(level, i);
+        else
+            write_asked_traces(parent, level, asked);
         if (Store::hashes) level.key.hash = hash_of(word, voices + 2 * rows);
     }
 
@@ -432,12 +440,13 @@ template <class Store, bool plain> class Search {
         opened++;
         Level &level = levels[depth];
         Sets sets = {level.set, rows_of, false, false, due};
-        if (!(plain ? all_rounds(sets) : due_rounds(sets))) return Node::failed;
+        Rows asked;
+        if (!(plain ? all_rounds(sets) : due_rounds(sets, asked))) return Node::failed;
         int voice = first;
         while (voice < voices && !many(level.set[voice])) voice++;
         if (voice == voices) return Node::found;
         if (Store::has_keys) {
-            write_key(level);
+            write_key(depth ? &levels[depth - 1] : nullptr, level, asked);
             if (store.find(level.key)) return Node::failed;
         }
         level.voice = voice;
