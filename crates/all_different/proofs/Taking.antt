@@ -1,11 +1,11 @@
 -- The kind A's loops: one member's takings, a run of them, the values of the fixed members.
-use Rattle.std.proofs.Common.{◌≡◌, ℕ, zero, suc, ◌+◌, ◌-◌, ◌^◌, ◌<◌, ◌≤◌, Bool, true, false, cond, not, ◌&&◌, ◌||◌, eqb, ◌⊎◌, List, [], ◌∷◌, ◌++◌, map, length, get_or, take, drop, sym, refl, ap, ◌∙◌, ap₂, inl, inr, arith}
+use Rattle.std.proofs.Common.{◌≡◌, ℕ, suc, ◌+◌, ◌-◌, ◌^◌, ◌<◌, ◌≤◌, Bool, true, false, cond, not, ◌&&◌, ◌||◌, eqb, ◌⊎◌, List, [], ◌∷◌, ◌++◌, map, length, get_or, take, drop, sym, refl, ap, ◌∙◌, ap₂, inl, inr, arith}
 use lib.Bits.{bit_or}
 use lib.Count.{ones}
 use lib.ListN.{length-map}
 use Rattle.std.proofs.lemmas.Nat.{or_lt}
 use Rattle.std.proofs.lemmas.List.{take_more, take_rest}
-use Rattle.std.proofs.lemmas.Bool.{both_ways, eq-eqb, ne_eqb, or_left, or_right}
+use Rattle.std.proofs.lemmas.Bool.{eq-eqb, ne_eqb, or_left, or_right}
 use Rattle.rows.specs.declared.member.Member.{Member}
 use Rattle.sets.specs.Placings.{changed}
 use Rattle.std.specs.List.{list_all, list_any}
@@ -114,7 +114,7 @@ gives s v m = fixed (at s m) && eqb v (least (at s m))
 pub used_none : (s : List ℕ) → 0 ≡ used [] s
 used_none s = none_mask (λ v. list_any (gives s v) []) (λ v l. refl)
 
-used_below : (ms : List Member) (s : List ℕ) → used ms s < 2 ^ 64
+pub used_below : (ms : List Member) (s : List ℕ) → used ms s < 2 ^ 64
 used_below ms s = mask_below 64 (λ v. list_any (gives s v) ms)
 
 used_push : (ms : List Member) (m : Member) (s : List ℕ) → Small s → cond (fixed (at s m)) (bit_or (used ms s) (at s m)) (used ms s) ≡ used (ms ++ (m ∷ [])) s

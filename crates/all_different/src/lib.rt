@@ -1,9 +1,10 @@
 // The kind A, all different: the values of a row's members differ.
 #![tactic(auto)]
 
-ghost use Rattle.std.specs.Prelude.{◌≡◌, refl, map, nat_eq, unsigned_abs};
+ghost use Rattle.std.specs.Prelude.{◌≡◌, refl, map, nat_eq, nat_lt, unsigned_abs};
+ghost use Rattle.sets.specs.Sets.{has, mask};
 ghost use Rattle.sets.specs.Placings.{changed};
-ghost use Rattle.std.specs.List.{list_all, list_any};
+ghost use Rattle.std.specs.List.{list_all, list_any, count_by};
 ghost use Rattle.narrowing.specs.Shared.{at, cuts, distinct};
 ghost use Rattle.all_different.specs.Differing.{spares, used, all_different};
 ghost use Rattle.all_different.specs.DifferingLaws.{all_different_lawful};
@@ -62,18 +63,23 @@ fn take_from_others(members: &[Member], taker: Member, sets: &mut [ValueSet]) ->
     lost
 }
 
-// The values of the fixed members.
-fn values_of_fixed(members: &[Member], sets: &[ValueSet]) -> ValueSet
-    ensures { result ≡ used members.now sets.now }
+// The values that the sets of two members or more have, and the values of the fixed members.
+fn shared_and_placed(members: &[Member], sets: &[ValueSet]) -> (ValueSet, ValueSet)
+    ensures shared { result.0 ≡ mask 64 (λ v. nat_lt 1 (count_by (λ m. has (at sets.now m) v) members.now)) }
+    ensures placed { result.1 ≡ used members.now sets.now }
 {
-    let mut values = 0;
+    let mut once = 0;
+    let mut shared = 0;
+    let mut placed = 0;
     for m in members {
         let set = set_of(sets, m.voice);
+        shared |= once & set;
+        once |= set;
         if is_fixed(set) {
-            values |= set;
+            placed |= set;
         }
     }
-    values
+    (shared, placed)
 }
 
 // The kind of rows whose members' values all differ.
@@ -110,9 +116,17 @@ impl Kind for AllDifferent {
     // Each member in order, if it is fixed by then, takes its value out of every other member's set.
     fn turn(row: &Row, sets: &mut [ValueSet]) -> bool {
         let members = row.members();
+        let (shared, placed) = shared_and_placed(members, sets);
+        // no fixed member's value is in another's set: nothing is taken, and so no more become fixed
+        if shared & placed == 0 {
+            return false;
+        }
         let mut took = false;
         for m in members {
-            took |= take_from_others(members, *m, sets);
+            // one whose values no other had takes nothing: sets only lose values
+            if set_of(sets, m.voice) & shared != 0 {
+                took |= take_from_others(members, *m, sets);
+            }
         }
         took
     }
@@ -120,7 +134,7 @@ impl Kind for AllDifferent {
     // Settled where the fixed members have as many values as there are members; else those values.
     fn trace(row: &Row, sets: &[ValueSet]) -> Trace {
         let members = row.members();
-        let values = values_of_fixed(members, sets);
+        let (_, values) = shared_and_placed(members, sets);
         if values.count_ones() as usize == members.len() {
             Trace::Settled
         } else {
