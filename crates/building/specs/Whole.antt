@@ -66,7 +66,7 @@ abbrev pub build_answer : Result Unit BuildRefusal → Answer
 build_answer (Ok x) = Answer.done
 build_answer (Err refusal) = Answer.refused (build_number refusal)
 
--- a fault of building among the answers
+-- what building itself says in an answer: nothing is wrong, also where Post declines, or its fault
 abbrev pub own_fault : Result Unit BuildRefusal → Verdict
 own_fault (Ok x) = Ok tt
 own_fault (Err (Building fault)) = Err fault

@@ -1,6 +1,6 @@
 pub mod Levels
-pub mod Nodes
-pub mod Outcomes
-pub mod Places
-pub mod Searches
 pub mod Stacks
+pub mod Nodes
+pub mod Places
+pub mod Outcomes
+pub mod Searches

@@ -1,8 +1,8 @@
-pub mod Numbers
 pub mod Rows
-pub mod Traces
 pub mod Laws
+pub mod SideBySide
+pub mod Traces
 pub mod Views
 pub mod Bytes
+pub mod Numbers
 pub mod Reading
-pub mod SideBySide

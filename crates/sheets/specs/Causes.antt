@@ -16,6 +16,7 @@ layer_name Table = codes "table"
 abbrev pub layer_of : ℕ → Layer
 layer_of n = cond (nat_le 10 n) Table Row
 
+-- a cause is told by its number and its layer: the sheet's own, or those of the refusal of Declare or Post
 abbrev pub cause_number : Cause → ℕ
 cause_number NoRecord = 1
 cause_number LateVoice = 3

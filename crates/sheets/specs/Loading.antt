@@ -87,11 +87,12 @@ pub record ItemRead (m : Meaning) (t : Table) (i : Item) (r : Result (Option ℕ
   pub table : u ≡ item_table m t.voices t.rows i
   pub store : w.held ≡ []
 
--- all records are read: where the sheet is accepted, the table has its voices and rows
+-- where the sheet is accepted, the table has its voices and rows; where it is not, nothing is said, since a Wipe follows
 abbrev pub Filled : Outcome → Table → Type 0
 Filled (accepted voices rows) u = u ≡ begun voices rows
 Filled (refused number place layer) u = Unit {0}
 
+-- all records are read, up to the sheet's end or its first fault
 pub record RecordsRead (o : Outcome) (r : Result Unit SheetFault) (u : Table) (w : View) : Type 0 where
   pub answer : load_answer r ≡ outcome_answer o
   pub table : Filled o u
