@@ -36,16 +36,22 @@ fn linear_number(heap: Global, bound: i32, coefficient: i16) -> Result<Option<u8
     Ok(number(Linear::accept(&row, 1)))
 }
 
+// Bounds and coefficients, and the refusal's number.
+static RANGES: [(i32, i16, Option<u8>); 7] = [
+    (0, 1_000, None),
+    (0, 1_001, Some(9)),
+    (0, -1_001, Some(9)),
+    (3_000_000, 1, None),
+    (3_000_001, 1, Some(9)),
+    (-3_000_000, 1, None),
+    (-3_000_001, 1, Some(9)),
+];
+
 #[test]
 fn linear_ranges(rt: HostRuntime) -> Result<(), Fail> {
-    let heap = rt.alloc();
-    assert_eq!(rt; linear_number(heap, 0, 1_000)?, None);
-    assert_eq!(rt; linear_number(heap, 0, 1_001)?, Some(9));
-    assert_eq!(rt; linear_number(heap, 0, -1_001)?, Some(9));
-    assert_eq!(rt; linear_number(heap, 3_000_000, 1)?, None);
-    assert_eq!(rt; linear_number(heap, 3_000_001, 1)?, Some(9));
-    assert_eq!(rt; linear_number(heap, -3_000_000, 1)?, None);
-    assert_eq!(rt; linear_number(heap, -3_000_001, 1)?, Some(9));
+    for (bound, coefficient, expected) in &RANGES {
+        assert_eq!(rt; linear_number(rt.alloc(), *bound, *coefficient)?, *expected);
+    }
     Ok(())
 }
 
@@ -54,14 +60,20 @@ fn literal_number(heap: Global, argument: i16) -> Result<Option<u8>, AllocError>
     Ok(number(Clause::accept(&row, 1)))
 }
 
+// Arguments of a literal, and the refusal's number.
+static ARGUMENTS: [(i16, Option<u8>); 5] = [
+    (63, None),
+    (64, None),
+    (127, None),
+    (128, Some(9)),
+    (-1, Some(9)),
+];
+
 #[test]
 fn literals(rt: HostRuntime) -> Result<(), Fail> {
-    let heap = rt.alloc();
-    assert_eq!(rt; literal_number(heap, 63)?, None);
-    assert_eq!(rt; literal_number(heap, 64)?, None);
-    assert_eq!(rt; literal_number(heap, 127)?, None);
-    assert_eq!(rt; literal_number(heap, 128)?, Some(9));
-    assert_eq!(rt; literal_number(heap, -1)?, Some(9));
+    for (argument, expected) in &ARGUMENTS {
+        assert_eq!(rt; literal_number(rt.alloc(), *argument)?, *expected);
+    }
     Ok(())
 }
 

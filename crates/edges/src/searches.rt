@@ -17,14 +17,17 @@ static FIVE: [u8; 22] = [
     b'A', 5, b'M', 0, 0, 0, b'M', 1, 0, 0, b'M', 2, 0, 0, b'M', 3, 0, 0, b'M', 4, 0, 0,
 ];
 
-// The last answer of Solve, with each budget in turn, and the counts.
+// What a search has come to: the last answer of Solve, and the counts.
+type Searched = (Result<Outcome, Refusal>, u64, u64);
+
+// The search over a new table with these opening sets and this row, solved with each budget in turn.
 fn solved<S: Store + Drop>(
     rt: &HostRuntime,
     store: S,
     opening: &[ValueSet],
     row: &[u8],
     budgets: &[u64],
-) -> Result<(Result<Outcome, Refusal>, u64, u64), Fail> {
+) -> Result<Searched, Fail> {
     let mut table: Table<Alone<AllDifferent>, S> = Table::make(rt.alloc(), store)?;
     for set in opening {
         let _ = table.declare(*set);
@@ -37,24 +40,19 @@ fn solved<S: Store + Drop>(
     Ok((answer, table.opened(), table.exhausted()))
 }
 
+// Budgets, and what the search over three voices with the values 1 and 2 comes to.
+static BUDGETS: [(&[u64], Searched); 4] = [
+    (&[9], (Ok(Outcome::None), 3, 1)),
+    (&[2], (Ok(Outcome::Stopped), 2, 0)),
+    (&[2, 1], (Ok(Outcome::None), 3, 1)),
+    (&[9, 0], (Err(Refusal::BudgetRange), 3, 1)),
+];
+
 #[test]
 fn three_voices(rt: HostRuntime) -> Result<(), Fail> {
-    assert_eq!(rt;
-        solved(&rt, Bare, &[6, 6, 6], &THREE, &[9])?,
-        (Ok(Outcome::None), 3, 1)
-    );
-    assert_eq!(rt;
-        solved(&rt, Bare, &[6, 6, 6], &THREE, &[2])?,
-        (Ok(Outcome::Stopped), 2, 0)
-    );
-    assert_eq!(rt;
-        solved(&rt, Bare, &[6, 6, 6], &THREE, &[2, 1])?,
-        (Ok(Outcome::None), 3, 1)
-    );
-    assert_eq!(rt;
-        solved(&rt, Bare, &[6, 6, 6], &THREE, &[9, 0])?,
-        (Err(Refusal::BudgetRange), 3, 1)
-    );
+    for (budgets, expected) in &BUDGETS {
+        assert_eq!(rt; solved(&rt, Bare, &[6, 6, 6], &THREE, budgets)?, *expected);
+    }
     Ok(())
 }
 

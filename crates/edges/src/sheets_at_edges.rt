@@ -105,11 +105,17 @@ fn push_literals(sheet: &mut Vec<u8>, count: u8) -> Result<(), AllocError> {
     Ok(())
 }
 
-// A sheet of so many voices, then so many clauses of one literal, then these bytes.
-fn sheet(rt: &HostRuntime, voices: u32, clauses: u32, end: &[u8]) -> Result<Vec<u8>, AllocError> {
+// A sheet of so many voices, then so many clauses of so many literals, then these bytes.
+fn sheet(
+    rt: &HostRuntime,
+    voices: u32,
+    clauses: u32,
+    literals: u8,
+    end: &[u8],
+) -> Result<Vec<u8>, AllocError> {
     let mut sheet = Vec::new(rt.alloc());
     push_voices(&mut sheet, voices, 15)?;
-    push_clauses(&mut sheet, clauses, 1)?;
+    push_clauses(&mut sheet, clauses, literals)?;
     sheet.extend_from_slice(end)?;
     Ok(sheet)
 }
@@ -122,52 +128,45 @@ fn malformed(rt: HostRuntime) -> Result<(), Fail> {
     Ok(())
 }
 
-// 80 voices and 120 rows, and one more of each.
+// How many voices and clauses of how many literals, what follows them, and what is said to such a sheet: 80 voices and 120 rows, and one more of each, the one more with another
+// refusal too; clauses of 32 literals and of 33.
+static AT_LIMITS: [(u32, u32, u8, &[u8], Option<Refused>); 7] = [
+    (80, 120, 1, b"Z", None),
+    (81, 0, 1, b"Z", Some((11, 720, Layer::Table))),
+    (
+        80,
+        0,
+        1,
+        b"V\0\0\0\0\0\0\0\0Z",
+        Some((10, 720, Layer::Table)),
+    ),
+    (1, 121, 1, b"Z", Some((12, 729, Layer::Table))),
+    (1, 120, 1, b"A\x01M\0\x01\0Z", Some((9, 729, Layer::Row))),
+    (1, 1, 32, b"Z", None),
+    (1, 1, 33, b"Z", Some((5, 9, Layer::Row))),
+];
+
 #[test]
-fn counts_at_their_limits(rt: HostRuntime) -> Result<(), Fail> {
-    let none = b"V\0\0\0\0\0\0\0\0Z";
-    assert_eq!(rt; refused(&rt, &sheet(&rt, 80, 120, b"Z")?)?, None);
-    assert_eq!(rt;
-        refused(&rt, &sheet(&rt, 81, 0, b"Z")?)?,
-        Some((11, 720, Layer::Table))
-    );
-    assert_eq!(rt;
-        refused(&rt, &sheet(&rt, 80, 0, none)?)?,
-        Some((10, 720, Layer::Table))
-    );
-    assert_eq!(rt;
-        refused(&rt, &sheet(&rt, 1, 121, b"Z")?)?,
-        Some((12, 729, Layer::Table))
-    );
-    let broken = b"A\x01M\0\x01\0Z";
-    assert_eq!(rt;
-        refused(&rt, &sheet(&rt, 1, 120, broken)?)?,
-        Some((9, 729, Layer::Row))
-    );
+fn at_limits(rt: HostRuntime) -> Result<(), Fail> {
+    for (voices, clauses, literals, end, expected) in &AT_LIMITS {
+        let bytes = sheet(&rt, *voices, *clauses, *literals, end)?;
+        assert_eq!(rt; refused(&rt, &bytes)?, *expected);
+    }
     Ok(())
 }
 
-// Rows of 32 members and of 33.
-#[test]
-fn members_at_their_limit(rt: HostRuntime) -> Result<(), Fail> {
-    let mut most = sheet(&rt, 1, 0, b"")?;
-    push_clauses(&mut most, 1, 32)?;
-    most.push(b'Z')?;
-    assert_eq!(rt; refused(&rt, &most)?, None);
-    let mut more = sheet(&rt, 1, 0, b"")?;
-    push_clauses(&mut more, 1, 33)?;
-    more.push(b'Z')?;
-    assert_eq!(rt; refused(&rt, &more)?, Some((5, 9, Layer::Row)));
-    Ok(())
-}
-
-// The largest sheet: 80 voices, 120 rows and 8,192 bytes of rows (68 of 70, 52 of 66). It loads, and is saved as it was; what lies behind stays.
-#[test]
-fn largest(rt: HostRuntime) -> Result<(), Fail> {
-    let mut bytes = sheet(&rt, 80, 0, b"")?;
-    push_clauses(&mut bytes, 68, 17)?;
+// The largest sheet: 80 voices, 120 rows and 8,192 bytes of rows (68 of 70, 52 of 66).
+fn largest_sheet(rt: &HostRuntime) -> Result<Vec<u8>, AllocError> {
+    let mut bytes = sheet(rt, 80, 68, 17, b"")?;
     push_clauses(&mut bytes, 52, 16)?;
     bytes.push(b'Z')?;
+    Ok(bytes)
+}
+
+// It loads, and is saved as it was; what lies behind stays.
+#[test]
+fn largest(rt: HostRuntime) -> Result<(), Fail> {
+    let mut bytes = largest_sheet(&rt)?;
     assert_eq!(rt; bytes.len(), 8_913);
     let mut table: Table<FourKinds, Bare> = Table::make(rt.alloc(), Bare)?;
     assert!(rt; load(&mut table, &bytes).is_ok());
@@ -178,39 +177,32 @@ fn largest(rt: HostRuntime) -> Result<(), Fail> {
     Ok(())
 }
 
-// The whole job on such a sheet. Several literals stand in each clause (the same one counts as often as it is there), so that nothing is narrowed: the root is opened, and
-// then a node for each voice with its least value; none fails.
-#[test]
-fn largest_planned(rt: HostRuntime) -> Result<(), Fail> {
-    let mut bytes = sheet(&rt, 80, 0, b"")?;
-    push_clauses(&mut bytes, 68, 17)?;
-    push_clauses(&mut bytes, 52, 16)?;
-    bytes.push(b'Z')?;
-    let mut expected = String::from_str(rt.alloc(), "found\nopened 81\nexhausted 0\n")?;
-    for voice in 0..80 {
-        let line = format!(in rt.alloc(); "{voice} 0\n")?;
-        expected.push_str(&line)?;
-    }
-    let mut words = vec![in rt.alloc(); 0u64; 4_096]?;
-    let text = plan::<FourKinds, Shelf>(rt.alloc(), Shelf::new(&mut words), &bytes)?;
-    assert!(rt; text.as_slice() == expected.as_bytes());
-    Ok(())
-}
-
 // What is printed of the sheet, over a shelf of 4,096 words.
 fn planned(rt: &HostRuntime, sheet: &[u8]) -> Result<Vec<u8>, AllocError> {
     let mut words = vec![in rt.alloc(); 0u64; 4_096]?;
     plan::<FourKinds, Shelf>(rt.alloc(), Shelf::new(&mut words), sheet)
 }
 
+// The whole job on the largest sheet. Several literals stand in each clause (the same one counts as often as it is there), so that nothing is narrowed: the root is opened, and
+// then a node for each voice with its least value; none fails.
+#[test]
+fn largest_planned(rt: HostRuntime) -> Result<(), Fail> {
+    let bytes = largest_sheet(&rt)?;
+    let mut expected = String::from_str(rt.alloc(), "found\nopened 81\nexhausted 0\n")?;
+    for voice in 0..80 {
+        let line = format!(in rt.alloc(); "{voice} 0\n")?;
+        expected.push_str(&line)?;
+    }
+    assert!(rt; planned(&rt, &bytes)?.as_slice() == expected.as_bytes());
+    Ok(())
+}
+
 // More bytes than are read, all of them voices, of which 80 fit; and 120 rows of 32 literals, of which 63 fit (8,190 bytes).
 #[test]
 fn more_than_fits(rt: HostRuntime) -> Result<(), Fail> {
-    let voices = sheet(&rt, 2_300, 0, b"Z")?;
+    let voices = sheet(&rt, 2_300, 0, 1, b"Z")?;
     assert!(rt; planned(&rt, &voices)?.as_slice() == "refused 11 at 720 in table\n".as_bytes());
-    let mut rows = sheet(&rt, 1, 0, b"")?;
-    push_clauses(&mut rows, 120, 32)?;
-    rows.push(b'Z')?;
+    let rows = sheet(&rt, 1, 120, 32, b"Z")?;
     assert!(rt; planned(&rt, &rows)?.as_slice() == "refused 12 at 8199 in table\n".as_bytes());
     Ok(())
 }
@@ -218,8 +210,7 @@ fn more_than_fits(rt: HostRuntime) -> Result<(), Fail> {
 // A byte more of rows than there may be, and a declined sheet leaves nothing.
 #[test]
 fn bytes_at_their_limit(rt: HostRuntime) -> Result<(), Fail> {
-    let mut bytes = sheet(&rt, 80, 0, b"")?;
-    push_clauses(&mut bytes, 63, 32)?;
+    let mut bytes = sheet(&rt, 80, 63, 32, b"")?;
     push_clauses(&mut bytes, 1, 1)?;
     bytes.push(b'Z')?;
     // 63 rows of 130 bytes are 8,190, and 6 more pass 8,192
