@@ -3,11 +3,10 @@
 #![tactic(auto)]
 
 ghost use Rattle.std.specs.Prelude.{◌≡◌, refl, ◌&&◌, length, if◌then◌else◌, ◌==◌, nat_lt, unsigned_abs};
-ghost use Rattle.sets.specs.Sets.{has, mask};
-ghost use Rattle.sets.specs.Placings.{changed};
+ghost use Rattle.sets.specs.Sets.{has, mask, sift};
 ghost use Rattle.std.specs.List.{list_all};
 ghost use Rattle.rows.specs.Views.{row_of};
-ghost use Rattle.element.specs.Entries.{index, result_voice, entry, reached, indexed, resulted, is_entry, element};
+ghost use Rattle.element.specs.Entries.{index, result_voice, entry, reached, is_entry, element};
 ghost use Rattle.element.specs.EntriesLaws.{element_lawful};
 
 use narrowing::{is_shaped, judge, keep_only, set_of};
@@ -16,7 +15,7 @@ use rows::kind::Kind;
 use rows::member::Member;
 use rows::row::Row;
 use rows::trace::Trace;
-use sets::{ValueSet, contains, only_value, single};
+use sets::{ValueSet, contains, only_value, single, take_least};
 
 // The index voice and the result voice.
 fn index_voice(row: &Row) -> u16
@@ -61,57 +60,22 @@ fn is_met(entries: &[Member], place: u32, value: u32) -> bool
     }
 }
 
-// The places of the entries that are among the results.
-fn index_values(entries: &[Member], results: ValueSet) -> ValueSet
-    ensures { result ≡ mask 64 (λ i. nat_lt i (length entries.now) && has results (entry entries.now i)) }
+// The indices whose entry is among the results, and these entries. (Over the set: most sets have fewer values than a row has entries.)
+fn matching(entries: &[Member], indices: ValueSet, results: ValueSet) -> (ValueSet, ValueSet)
+    ensures kept { result.0 ≡ sift (λ i. nat_lt i (length entries.now) && has results (entry entries.now i)) indices }
+    ensures named { result.1 ≡ mask 64 (reached entries.now (has result.0)) }
 {
-    let mut indices = 0;
-    // the set of the place at hand, which moves along with it: a place itself may be more than a shift can take, and a cast of
-    // it would be no plainer; empty from place 64 on
-    let mut here = 1;
-    for m in entries {
-        if contains(results, value_of(*m)) {
-            indices |= here;
-        }
-        here <<= 1;
-    }
-    indices
-}
-
-// The entries at the indices.
-fn result_values(entries: &[Member], indices: ValueSet) -> ValueSet
-    ensures { result ≡ mask 64 (reached entries.now (has indices)) }
-{
-    let mut results = 0;
-    // the indices from the place at hand on, counted from there, for the same reason
+    let mut kept = 0;
+    let mut named = 0;
     let mut left = indices;
-    for m in entries {
-        if contains(left, 0) {
-            results |= single(value_of(*m));
+    while let Some(place) = take_least(&mut left) {
+        let value = entry_at(entries, place);
+        if contains(results, value) {
+            kept |= single(place);
+            named |= single(value);
         }
-        left >>= 1;
     }
-    results
-}
-
-// The index keeps only the places of entries that the result's set has; says whether one went.
-fn narrow_index(row: &Row, sets: &mut [ValueSet]) -> bool
-    ensures after { sets.new ≡ indexed (row_of row.now) sets.old }
-    ensures value { result ≡ changed sets.new sets.old }
-{
-    let results = set_of(sets, result_voice(row));
-    let indices = index_values(row.members(), results);
-    keep_only(sets, index_voice(row), indices)
-}
-
-// The result keeps only the entries at the places that the index's set has; says whether one went.
-fn narrow_result(row: &Row, sets: &mut [ValueSet]) -> bool
-    ensures after { sets.new ≡ resulted (row_of row.now) sets.old }
-    ensures value { result ≡ changed sets.new sets.old }
-{
-    let indices = set_of(sets, index_voice(row));
-    let results = result_values(row.members(), indices);
-    keep_only(sets, result_voice(row), results)
+    (kept, named)
 }
 
 // The greatest entry.
@@ -160,8 +124,11 @@ impl Kind for Element {
     }
 
     fn turn(row: &Row, sets: &mut [ValueSet]) -> bool {
-        // both steps are taken, the second by the sets that the first leaves
-        narrow_index(row, sets) | narrow_result(row, sets)
+        let index = index_voice(row);
+        let result = result_voice(row);
+        let (kept, named) = matching(row.members(), set_of(sets, index), set_of(sets, result));
+        // what the second step keeps are the entries at the indices that the first keeps, also where both voices are one
+        keep_only(sets, index, kept) | keep_only(sets, result, named)
     }
 
     fn trace(row: &Row, sets: &[ValueSet]) -> Trace {
