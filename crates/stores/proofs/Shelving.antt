@@ -1,12 +1,12 @@
--- Keys behind their headers: reading back what was written, one key at a time, and one key more.
-use Rattle.std.proofs.Common.{◌≡◌, ℕ, zero, suc, ◌+◌, ◌-◌, ◌/◌, ◌%◌, ◌<◌, ◌≤◌, Bool, true, false, ◌&&◌, ◌||◌, eqb, ltb, leb, ◌⊎◌, List, [], ◌∷◌, ◌++◌, length, get_or, take, drop, sym, refl, ap, ◌∙◌, subst, ap₂, inl, inr, le_refl, arith}
-use Rattle.std.proofs.lemmas.Nat.{mod-mul-add}
-use Rattle.std.proofs.lemmas.List.{take_at, take_all, drop_at, append_assoc, append-nil, append_cancel_left, take-append-drop, length-take, length-take-le, length-drop, length-append}
-use Rattle.std.proofs.lemmas.Bool.{cases_Bool, and_right, lt-leb}
+-- Keys behind their headers: reading back what was written, the chain of a bucket, and one key more.
+use Rattle.std.proofs.Common.{◌≡◌, ℕ, zero, suc, ◌+◌, ◌-◌, ◌*◌, ◌/◌, ◌%◌, ◌^◌, ◌<◌, ◌≤◌, Bool, true, false, cond, ◌&&◌, ◌||◌, eqb, ltb, leb, ◌⊎◌, List, [], ◌∷◌, ◌++◌, length, get_or, set, take, drop, reverse, get_or-set_same, get_or-set_other, sym, refl, ap, ◌∙◌, subst, ap₂, inl, inr, le_refl, arith}
+use Rattle.std.proofs.lemmas.List.{take_at, drop_at, append_assoc, append-nil, reverse-append, take-append-drop, length-take, length-take-le, length-drop, length-append}
+use Rattle.std.proofs.lemmas.Bool.{cases_Bool, and_right, lt-leb, eqb-true, eqb-false}
+use Rattle.std.proofs.Math.Seq.{get_or-append_seam}
 use Rattle.std.specs.Str.{bytes_eq}
 use Rattle.sets.specs.Placings.{same}
 use Rattle.stores.specs.Stores.{member, Joined, Keeps, fits}
-use Rattle.stores.specs.Shelves.{hash_from, header, written, keys_in, shelved, Whole, room_of, shelf_view}
+use Rattle.stores.specs.Shelves.{hash_of, bucket, header, words_of, newest, entry, written, keys_in, shelved, Whole, Leads, room_of, shelf_view}
 use Rattle.stores.specs.declared.store.Stored.TheVariants.{Kept}
 use Rattle.stores.proofs.Keeping.{Fitting, fitting}
 use Rattle.sets.proofs.Lists.{same_is}
@@ -17,9 +17,6 @@ use Rattle.sets.proofs.Lists.{same_is}
 pub same_not : (xs ys : List ℕ) → (xs ≡ ys → ⊥) → same xs ys ≡ false
 same_not xs ys n = elim (cases_Bool (same xs ys)) [ inl e ↦ absurd (n (same_is xs ys e)) | inr e ↦ e ]
 
-longer_not : (xs ys : List ℕ) → (length xs ≡ length ys → ⊥) → same xs ys ≡ false
-longer_not xs ys n = same_not xs ys (λ e. n (ap length e))
-
 -- what `==` of two slices answers
 pub same_pointwise : (xs ys : List ℕ) → same xs ys ≡ bytes_eq xs ys
 same_pointwise [] [] = refl
@@ -27,11 +24,19 @@ same_pointwise [] (y ∷ ys) = refl
 same_pointwise (x ∷ xs) [] = refl
 same_pointwise (x ∷ xs) (y ∷ ys) = ap (λ (b : Bool). eqb x y && b) (same_pointwise xs ys)
 
--- ---- hashes and headers
+-- ---- headers
 
--- the header tells the length
-pub header_length : (k : List ℕ) → length k < 65536 → header k % 65536 ≡ length k
-header_length k h = mod-mul-add (hash_from 0 k / 65536) 65536 (length k) h
+-- what a header tells
+pub record Tells (link hash len h : ℕ) : Type 0 where
+  pub long : h % 65536 ≡ len
+  pub on : h / 65536 % 65536 ≡ link
+  pub print : h / 4294967296 ≡ hash / 4294967296
+
+pub tells : (link hash len : ℕ) → link < 65536 → len < 65536 → Tells link hash len (hash / 4294967296 * 4294967296 + link * 65536 + len)
+tells link hash len l n = record { long = omega arith; on = omega arith; print = omega arith }
+
+header_length : (link : ℕ) (k : List ℕ) → length k < 65536 → header link k % 65536 ≡ length k
+header_length link k n = omega arith
 
 -- ---- reading
 
@@ -53,11 +58,12 @@ bound_free (suc f) (suc g) (w ∷ ws) h k =
     ap (λ (x : List (List ℕ)). take (w % 65536) ws ∷ x)
     (bound_free f g (drop (w % 65536) ws) (omega (arith, length-drop (w % 65536) ws)) (omega (arith, length-drop (w % 65536) ws)))
 
-pub shelved_step : (h : ℕ) (ws : List ℕ) → shelved (h ∷ ws) ≡ take (h % 65536) ws ∷ shelved (drop (h % 65536) ws)
+shelved_step : (h : ℕ) (ws : List ℕ) → shelved (h ∷ ws) ≡ take (h % 65536) ws ∷ shelved (drop (h % 65536) ws)
 shelved_step h ws =
     ap (λ (x : List (List ℕ)). take (h % 65536) ws ∷ x)
     (bound_free (length ws) (length (drop (h % 65536) ws)) (drop (h % 65536) ws) (omega (arith, length-drop (h % 65536) ws)) (le_refl (length (drop (h % 65536) ws))))
 
+-- keys that are short, so that a header has room for their length
 abbrev pub Short : List (List ℕ) → Type 0
 Short [] = Unit {0}
 Short (k ∷ ks) = (length k < 65536) × Short ks
@@ -67,87 +73,71 @@ keys_short zero ws = tt
 keys_short (suc n) [] = tt
 keys_short (suc n) (h ∷ ws) = (omega (arith, length-take (h % 65536) ws), keys_short n (drop (h % 65536) ws))
 
-pub shelved_short : (ws : List ℕ) → Short (shelved ws)
-shelved_short ws = keys_short (length ws) ws
-
--- what is written is read back
-pub read_back : (ks : List (List ℕ)) → Short ks → shelved (written ks) ≡ ks
-read_back [] s = refl
-read_back (k ∷ ks) s =
-    shelved_step (header k) (k ++ written ks)
-    ∙ ap₂ {C = List (List ℕ)} (λ (x : List ℕ) (y : List ℕ). x ∷ shelved y)
-    (take_at k (written ks) (header k % 65536) (sym (header_length k s.0))) (drop_at k (written ks) (header k % 65536) (sym (header_length k s.0)))
-    ∙ ap (λ (x : List (List ℕ)). k ∷ x) (read_back ks s.1)
-
--- the first of whole keys
-pub record First (h : ℕ) (ws : List ℕ) : Type 0 where
-  pub inside : h % 65536 ≤ length ws
-  pub own : h ≡ header (take (h % 65536) ws)
-  pub rest : Whole (drop (h % 65536) ws)
-
-head_same : (a b : ℕ) (xs ys : List ℕ) → a ∷ xs ≡ b ∷ ys → a ≡ b
-head_same a b xs ys e = ap (λ (x : List ℕ). get_or x 0 0) e
-
-tail_same : (a b : ℕ) (xs ys : List ℕ) → a ∷ xs ≡ b ∷ ys → xs ≡ ys
-tail_same a b xs ys e = ap (drop 1) e
-
-pub whole_first : (h : ℕ) (ws : List ℕ) → Whole (h ∷ ws) → First h ws
-whole_first h ws w = record {
-  inside = omega (arith, length-take (h % 65536) ws, sym (header_length (take (h % 65536) ws) (omega (arith, length-take (h % 65536) ws))), ap (λ (x : ℕ). x % 65536) own);
-  own = own;
-  rest = sym (append_cancel_left (take (h % 65536) ws) (drop (h % 65536) ws) (written (shelved (drop (h % 65536) ws))) (take-append-drop (h % 65536) ws ∙ sym (tail_same _ _ _ _ parts)));
-}
-  where
-    parts : header (take (h % 65536) ws) ∷ (take (h % 65536) ws ++ written (shelved (drop (h % 65536) ws))) ≡ h ∷ ws
-    parts = sym (ap written (shelved_step h ws)) ∙ w
-
-    own : h ≡ header (take (h % 65536) ws)
-    own = sym (head_same _ _ _ _ parts)
-
--- ---- looking
-
--- words that are whole keys: the first of them, and the rest
-pub record At (ws : List ℕ) : Type 0 where
-  pub inside : get_or ws 0 0 % 65536 ≤ length (drop 1 ws)
-  pub own : get_or ws 0 0 ≡ header (take (get_or ws 0 0 % 65536) (drop 1 ws))
-  pub rest : Whole (drop (get_or ws 0 0 % 65536) (drop 1 ws))
-  pub keys : shelved ws ≡ take (get_or ws 0 0 % 65536) (drop 1 ws) ∷ shelved (drop (get_or ws 0 0 % 65536) (drop 1 ws))
-
--- what a pattern leaves behind the first word
-pub behind_first : (ws : List ℕ) → take (length ws - 1) (drop 1 ws) ≡ drop 1 ws
-behind_first ws = take_all (length ws - 1) (drop 1 ws) (omega (arith, length-drop 1 ws))
-
-pub looks : (ws : List ℕ) → 1 ≤ length ws → Whole ws → At ws
-looks [] h w = absurd (omega arith)
-looks (x ∷ ws) h w = let f = whole_first x ws w in record { inside = f.inside; own = f.own; rest = f.rest; keys = shelved_step x ws }
-
--- another header, another key
-pub other_header : (k x : List ℕ) (h : ℕ) → h ≡ header x → (h ≡ header k → ⊥) → same k x ≡ false
-other_header k x h e n = same_not k x (λ d. n (e ∙ ap header (sym d)))
-
--- a key too long to have a header is not there
-pub too_long : (k : List ℕ) (ks : List (List ℕ)) → Short ks → 65536 ≤ length k → member k ks ≡ false
-too_long k [] s h = refl
-too_long k (x ∷ ks) s h = ap₂ ◌||◌ (longer_not k x (λ e. omega (arith, s.0))) (too_long k ks s.1 h)
-
--- ---- one key more
-
-written_push : (ks : List (List ℕ)) (k : List ℕ) → written (ks ++ (k ∷ [])) ≡ written ks ++ (header k ∷ k)
-written_push [] k = ap (λ (x : List ℕ). header k ∷ x) (append-nil k)
-written_push (x ∷ ks) k = ap (λ (y : List ℕ). header x ∷ y) (ap (λ (y : List ℕ). x ++ y) (written_push ks k) ∙ sym (append_assoc x (written ks) (header k ∷ k)))
-
 short_push : (ks : List (List ℕ)) (k : List ℕ) → Short ks → length k < 65536 → Short (ks ++ (k ∷ []))
 short_push [] k s h = (h, tt)
 short_push (x ∷ ks) k s h = (s.0, short_push ks k s.1 h)
 
-as_written : (ws k : List ℕ) → Whole ws → ws ++ (header k ∷ k) ≡ written (shelved ws ++ (k ∷ []))
-as_written ws k w = ap (λ (x : List ℕ). x ++ (header k ∷ k)) (sym w) ∙ sym (written_push (shelved ws) k)
+reverse_more : (ks : List (List ℕ)) (k : List ℕ) → reverse (k ∷ ks) ≡ reverse ks ++ (k ∷ [])
+reverse_more ks k = reverse-append (k ∷ []) ks
 
-pub shelved_push : (ws k : List ℕ) → Whole ws → length k < 65536 → shelved (ws ++ (header k ∷ k)) ≡ shelved ws ++ (k ∷ [])
-shelved_push ws k w h = ap shelved (as_written ws k w) ∙ read_back (shelved ws ++ (k ∷ [])) (short_push (shelved ws) k (shelved_short ws) h)
+reverse_push : (ks : List (List ℕ)) (k : List ℕ) → reverse (ks ++ (k ∷ [])) ≡ k ∷ reverse ks
+reverse_push ks k = reverse-append ks (k ∷ [])
 
-pub whole_push : (ws k : List ℕ) → Whole ws → length k < 65536 → Whole (ws ++ (header k ∷ k))
-whole_push ws k w h = ap written (shelved_push ws k w h) ∙ sym (as_written ws k w)
+reverse_twice : (ks : List (List ℕ)) → reverse (reverse ks) ≡ ks
+reverse_twice [] = refl
+reverse_twice (k ∷ ks) = ap reverse (reverse_more ks k) ∙ reverse_push (reverse ks) k ∙ ap (λ (x : List (List ℕ)). k ∷ x) (reverse_twice ks)
+
+short_reverse : (ks : List (List ℕ)) → Short ks → Short (reverse ks)
+short_reverse [] s = tt
+short_reverse (k ∷ ks) s = subst Short (sym (reverse_more ks k)) (short_push (reverse ks) k (short_reverse ks s.1) s.0)
+
+-- words that are these keys, the oldest first, each behind a word that tells its length
+data Runs : List ℕ → List (List ℕ) → Type 0 where
+  none : Runs [] []
+  more : (h : ℕ) (k ws : List ℕ) (ks : List (List ℕ)) → h % 65536 ≡ length k → Runs ws ks → Runs (h ∷ (k ++ ws)) (k ∷ ks)
+
+runs_read : (ws : List ℕ) (ks : List (List ℕ)) → Runs ws ks → shelved ws ≡ ks
+runs_read ws ks none = refl
+runs_read ws ks (more h k rest others e r) =
+    shelved_step h (k ++ rest)
+    ∙ ap₂ {C = List (List ℕ)} (λ (x : List ℕ) (y : List ℕ). x ∷ shelved y) (take_at k rest (h % 65536) (sym e)) (drop_at k rest (h % 65536) (sym e))
+    ∙ ap (λ (x : List (List ℕ)). k ∷ x) (runs_read rest others r)
+
+runs_push : (ws : List ℕ) (ks : List (List ℕ)) (h : ℕ) (k : List ℕ) → h % 65536 ≡ length k → Runs ws ks → Runs (ws ++ (h ∷ k)) (ks ++ (k ∷ []))
+runs_push ws ks h k e none = subst (λ (x : List ℕ). Runs (h ∷ x) (k ∷ [])) (append-nil k) (more h k [] [] e none)
+runs_push ws ks h k e (more g x rest others d r) =
+    subst (λ (y : List ℕ). Runs (g ∷ y) (x ∷ (others ++ (k ∷ [])))) (sym (append_assoc x rest (h ∷ k))) (more g x (rest ++ (h ∷ k)) (others ++ (k ∷ [])) d (runs_push rest others h k e r))
+
+runs_written : (ks : List (List ℕ)) → Short ks → Runs (written ks) (reverse ks)
+runs_written [] s = none
+runs_written (k ∷ ks) s =
+    subst (Runs (written ks ++ entry ks k)) (sym (reverse_more ks k)) (runs_push (written ks) (reverse ks) (header (newest (bucket k) ks) k) k (header_length (newest (bucket k) ks) k s.0) (runs_written ks s.1))
+
+-- what is written is read back
+read_back : (ks : List (List ℕ)) → Short ks → shelved (written ks) ≡ reverse ks
+read_back ks s = runs_read (written ks) (reverse ks) (runs_written ks s)
+
+-- the keys that words hold, the newest first
+abbrev pub recent : List ℕ → List (List ℕ)
+recent ws = reverse (shelved ws)
+
+recent_short : (ws : List ℕ) → Short (recent ws)
+recent_short ws = short_reverse (shelved ws) (keys_short (length ws) ws)
+
+-- ---- one key more
+
+pub shelved_push : (ws k : List ℕ) → Whole ws → length k < 65536 → shelved (ws ++ entry (recent ws) k) ≡ shelved ws ++ (k ∷ [])
+shelved_push ws k w h =
+    ap (λ (x : List ℕ). shelved (x ++ entry (recent ws) k)) (sym w)
+    ∙ read_back (k ∷ recent ws) (h, recent_short ws)
+    ∙ reverse_more (recent ws) k
+    ∙ ap (λ (x : List (List ℕ)). x ++ (k ∷ [])) (reverse_twice (shelved ws))
+
+recent_push : (ws k : List ℕ) → Whole ws → length k < 65536 → recent (ws ++ entry (recent ws) k) ≡ k ∷ recent ws
+recent_push ws k w h = ap reverse (shelved_push ws k w h) ∙ reverse_push (shelved ws) k
+
+pub whole_push : (ws k : List ℕ) → Whole ws → length k < 65536 → Whole (ws ++ entry (recent ws) k)
+whole_push ws k w h = ap written (recent_push ws k w h) ∙ ap (λ (x : List ℕ). x ++ entry (recent ws) k) w
 
 member_push : (x k : List ℕ) (ks : List (List ℕ)) → member x (ks ++ (k ∷ [])) ≡ (same x k || member x ks)
 member_push x k [] = refl
@@ -158,38 +148,218 @@ member_push x k (y ∷ ks) = ap (λ (b : Bool). same x y || b) (member_push x k 
     swap true false c = refl
     swap false b c = refl
 
-length_one_more : (ks : List (List ℕ)) (k : List ℕ) → length (ks ++ (k ∷ [])) ≡ length ks + 1
-length_one_more ks k = length-append ks (k ∷ [])
+member_reverse : (x : List ℕ) (ks : List (List ℕ)) → member x (reverse ks) ≡ member x ks
+member_reverse x [] = refl
+member_reverse x (k ∷ ks) = ap (member x) (reverse_more ks k) ∙ member_push x k (reverse ks) ∙ ap (λ (b : Bool). same x k || b) (member_reverse x ks)
 
-pub joined_by : (ws k : List ℕ) (room : ℕ) → Whole ws → length k < 65536 → Joined (shelf_view ws room) k (shelf_view (ws ++ (header k ∷ k)) room)
+joined_by : (ws k : List ℕ) (room : ℕ) → Whole ws → length k < 65536 → Joined (shelf_view ws room) k (shelf_view (ws ++ entry (recent ws) k) room)
 joined_by ws k room w h = record {
   members = λ x. ap (member x) (shelved_push ws k w h) ∙ member_push x k (shelved ws);
-  count = ap length (shelved_push ws k w h) ∙ length_one_more (shelved ws) k;
+  count = ap length (shelved_push ws k w h) ∙ length-append (shelved ws) (k ∷ []);
 }
 
--- how long the words are with one key more
-pushed_length : (all : List ℕ) (used : ℕ) (k : List ℕ) → used ≤ length all → length (take used all ++ (header k ∷ k)) ≡ used + 1 + length k
-pushed_length all used k h = length-append (take used all) (header k ∷ k) ∙ omega (arith, length-take-le used all h)
+-- ---- the chain of a bucket
+
+words_long : (ks : List (List ℕ)) → length (written ks) ≡ words_of ks
+words_long [] = refl
+words_long (k ∷ ks) = omega (arith, length-append (written ks) (entry ks k), words_long ks)
+
+-- a place in a chain lies within the words
+pub newest_within : (b : ℕ) (ks : List (List ℕ)) → newest b ks ≤ words_of ks
+newest_within b [] = omega arith
+newest_within b (k ∷ ks) = by_bucket (eqb (bucket k) b) (newest_within b ks)
+  where
+    by_bucket : (c : Bool) → newest b ks ≤ words_of ks → cond c (words_of ks + 1) (newest b ks) ≤ words_of ks + (1 + length k)
+    by_bucket true h = omega arith
+    by_bucket false h = omega arith
+
+-- the newest key of a bucket: it, and the keys before it
+pub record Newest (b : ℕ) (ks : List (List ℕ)) : Type 0 where
+  pub key : List ℕ
+  pub before : List (List ℕ)
+  pub rest : List ℕ
+  pub place : newest b ks ≡ words_of before + 1
+  pub words : written ks ≡ (written before ++ (header (newest b before) key ∷ key)) ++ rest
+  pub members : (x : List ℕ) → bucket x ≡ b → member x ks ≡ (same x key || member x before)
+  pub short : length key < 65536
+  pub shorts : Short before
+
+other_bucket : (x k : List ℕ) (b : ℕ) → bucket x ≡ b → eqb (bucket k) b ≡ false → same x k ≡ false
+other_bucket x k b e n = same_not x k (λ d. eqb-false (bucket k) b n (sym (ap bucket d) ∙ e))
+
+pub newest_key : (b : ℕ) (ks : List (List ℕ)) → Short ks → 0 < newest b ks → Newest b ks
+newest_key b [] s h = absurd (omega arith)
+newest_key b (k ∷ ks) s h = by_bucket (eqb (bucket k) b) refl (newest_key b ks s.1)
+  where
+    by_bucket : (c : Bool) → eqb (bucket k) b ≡ c → (0 < newest b ks → Newest b ks) → Newest b (k ∷ ks)
+    by_bucket true e r = record {
+      key = k;
+      before = ks;
+      rest = [];
+      place = ap (λ (c : Bool). cond c (words_of ks + 1) (newest b ks)) e;
+      words = ap (λ (n : ℕ). written ks ++ (header (newest n ks) k ∷ k)) (eqb-true (bucket k) b e) ∙ sym (append-nil (written ks ++ (header (newest b ks) k ∷ k)));
+      members = λ x d. refl;
+      short = s.0;
+      shorts = s.1;
+    }
+    by_bucket false e r =
+        let at : newest b (k ∷ ks) ≡ newest b ks = ap (λ (c : Bool). cond c (words_of ks + 1) (newest b ks)) e in
+        let n : Newest b ks = r (subst (λ (m : ℕ). 0 < m) at h) in record {
+          key = n.key;
+          before = n.before;
+          rest = n.rest ++ entry ks k;
+          place = at ∙ n.place;
+          words = ap (λ (x : List ℕ). x ++ entry ks k) n.words ∙ append_assoc (written n.before ++ (header (newest b n.before) n.key ∷ n.key)) n.rest (entry ks k);
+          members = λ x d. ap (λ (c : Bool). c || member x ks) (other_bucket x k b d e) ∙ n.members x d;
+          short = n.short;
+          shorts = n.shorts;
+        }
+
+-- a bucket with no key
+pub no_newest : (x : List ℕ) (ks : List (List ℕ)) → newest (bucket x) ks ≡ 0 → member x ks ≡ false
+no_newest x [] h = refl
+no_newest x (k ∷ ks) h = by_bucket (eqb (bucket k) (bucket x)) refl (no_newest x ks)
+  where
+    by_bucket : (c : Bool) → eqb (bucket k) (bucket x) ≡ c → (newest (bucket x) ks ≡ 0 → member x ks ≡ false) → member x (k ∷ ks) ≡ false
+    by_bucket true e r = absurd (omega (arith, sym (ap (λ (c : Bool). cond c (words_of ks + 1) (newest (bucket x) ks)) e) ∙ h))
+    by_bucket false e r = ap (λ (c : Bool). c || member x ks) (other_bucket x k (bucket x) refl e) ∙ r (sym (ap (λ (c : Bool). cond c (words_of ks + 1) (newest (bucket x) ks)) e) ∙ h)
+
+-- ---- a walk along a chain
+
+-- where a walk stands: at the newest key of its bucket among the older keys, of which those that are left are all that may be the key
+pub record Walk (used key : List ℕ) (at : ℕ) : Type 0 where
+  pub older : List (List ℕ)
+  pub rest : List ℕ
+  pub place : at ≡ newest (bucket key) older
+  pub words : used ≡ written older ++ rest
+  pub shorts : Short older
+  pub members : member key (shelved used) ≡ member key older
+
+pub walk_begins : (used key : List ℕ) (at : ℕ) → Whole used → at ≡ newest (bucket key) (recent used) → Walk used key at
+walk_begins used key at w e = record {
+  older = recent used;
+  rest = [];
+  place = e;
+  words = sym (append-nil (written (recent used)) ∙ w);
+  shorts = recent_short used;
+  members = sym (member_reverse key (shelved used));
+}
+
+pub walk_ends : (used key : List ℕ) (at : ℕ) → Walk used key at → at ≤ 0 → false ≡ member key (shelved used)
+walk_ends used key at w h = sym (w.members ∙ no_newest key w.older (omega (arith, w.place)))
+
+-- the key that a walk stands at, in all the words of which the first n are used
+pub record Stop (all : List ℕ) (n : ℕ) (key : List ℕ) (at : ℕ) : Type 0 where
+  pub held : List ℕ
+  pub link : ℕ
+  pub tells : Tells link (hash_of held) (length held) (get_or all (at - 1) 0)
+  pub lower : link < at
+  pub inside : at + length held ≤ n
+  pub words : take (length held) (drop at all) ≡ held
+  pub found : same key held ≡ true → true ≡ member key (shelved (take n all))
+  pub next : same key held ≡ false → Walk (take n all) key link
+
+pub walk_stops : (all : List ℕ) (n : ℕ) (key : List ℕ) (at : ℕ) → n ≤ length all → n ≤ 65536 → Walk (take n all) key at → 0 < at → Stop all n key at
+walk_stops all n key at l r w h = record {
+  held = s.key;
+  link = newest (bucket key) s.before;
+  tells = subst (Tells (newest (bucket key) s.before) (hash_of s.key) (length s.key)) (sym read)
+      (tells (newest (bucket key) s.before) (hash_of s.key) (length s.key) (omega (arith, lower, inside)) s.short);
+  lower = lower;
+  inside = inside;
+  words = ap (λ (x : List ℕ). take (length s.key) x) behind ∙ take_at s.key more (length s.key) refl;
+  found = λ e. sym (members ∙ ap (λ (b : Bool). b || member key s.before) e);
+  next = λ e. record {
+    older = s.before;
+    rest = (header (newest (bucket key) s.before) s.key ∷ s.key) ++ (s.rest ++ w.rest);
+    place = refl;
+    words = front;
+    shorts = s.shorts;
+    members = members ∙ ap (λ (b : Bool). b || member key s.before) e;
+  };
+}
+  where
+    s : Newest (bucket key) w.older
+    s = newest_key (bucket key) w.older w.shorts (omega (arith, w.place))
+
+    p : ℕ
+    p = length (written s.before)
+
+    place : at ≡ p + 1
+    place = w.place ∙ s.place ∙ ap (λ (x : ℕ). x + 1) (sym (words_long s.before))
+
+    h0 : ℕ
+    h0 = header (newest (bucket key) s.before) s.key
+
+    more : List ℕ
+    more = (s.rest ++ w.rest) ++ drop n all
+
+    members : member key (shelved (take n all)) ≡ (same key s.key || member key s.before)
+    members = w.members ∙ s.members key refl
+
+    front : take n all ≡ written s.before ++ ((h0 ∷ s.key) ++ (s.rest ++ w.rest))
+    front = w.words ∙ ap (λ (x : List ℕ). x ++ w.rest) s.words
+        ∙ append_assoc (written s.before ++ (h0 ∷ s.key)) s.rest w.rest
+        ∙ append_assoc (written s.before) (h0 ∷ s.key) (s.rest ++ w.rest)
+
+    whole : all ≡ written s.before ++ (h0 ∷ (s.key ++ more))
+    whole = sym (take-append-drop n all) ∙ ap (λ (x : List ℕ). x ++ drop n all) front
+        ∙ append_assoc (written s.before) ((h0 ∷ s.key) ++ (s.rest ++ w.rest)) (drop n all)
+        ∙ ap (λ (x : List ℕ). written s.before ++ (h0 ∷ x)) (append_assoc s.key (s.rest ++ w.rest) (drop n all))
+
+    read : get_or all (at - 1) 0 ≡ h0
+    read = ap₂ (λ (x : List ℕ) (i : ℕ). get_or x i 0) whole (omega (arith, place)) ∙ get_or-append_seam (written s.before) h0 (s.key ++ more) 0
+
+    behind : drop at all ≡ s.key ++ more
+    behind = ap₂ (λ (i : ℕ) (x : List ℕ). drop i x) place (whole ∙ sym (append_assoc (written s.before) (h0 ∷ []) (s.key ++ more)))
+        ∙ drop_at (written s.before ++ (h0 ∷ [])) (s.key ++ more) (p + 1) (length-append (written s.before) (h0 ∷ []))
+
+    lower : newest (bucket key) s.before < at
+    lower = omega (arith, newest_within (bucket key) s.before, w.place, s.place)
+
+    inside : at + length s.key ≤ n
+    inside = omega (arith, place, length-take-le n all l, ap length front, length-append (written s.before) ((h0 ∷ s.key) ++ (s.rest ++ w.rest)), length-append s.key (s.rest ++ w.rest))
+
+-- ---- a key added
+
+-- the header that is written
+pub headed : (heads ws k : List ℕ) (hash : ℕ) → hash ≡ hash_of k → hash < 2 ^ 64 → Leads heads ws
+    → hash / 4294967296 * 4294967296 + get_or heads (hash / 18014398509481984) 0 * 65536 + length k ≡ header (newest (bucket k) (recent ws)) k
+headed heads ws k hash e r l =
+    ap (λ (x : ℕ). hash / 4294967296 * 4294967296 + x * 65536 + length k) (l (hash / 18014398509481984) (omega arith))
+    ∙ ap (λ (x : ℕ). x / 4294967296 * 4294967296 + newest (x / 18014398509481984) (recent ws) * 65536 + length k) e
+
+pub leads_push : (heads ws k : List ℕ) (hash : ℕ) → Whole ws → length k < 65536 → length heads ≡ 1024 → hash ≡ hash_of k → hash < 2 ^ 64 → Leads heads ws
+    → Leads (set heads (hash / 18014398509481984) (length ws + 1)) (ws ++ entry (recent ws) k)
+leads_push heads ws k hash w n long e r l b h = sym (ap (newest b) (recent_push ws k w n) ∙ by_bucket (eqb (bucket k) b) refl)
+  where
+    at : hash / 18014398509481984 ≡ bucket k
+    at = ap (λ (x : ℕ). x / 18014398509481984) e
+
+    by_bucket : (c : Bool) → eqb (bucket k) b ≡ c → newest b (k ∷ recent ws) ≡ get_or (set heads (hash / 18014398509481984) (length ws + 1)) b 0
+    by_bucket true d =
+        ap (λ (c : Bool). cond c (words_of (recent ws) + 1) (newest b (recent ws))) d
+        ∙ ap (λ (x : ℕ). x + 1) (sym (words_long (recent ws)) ∙ ap length w)
+        ∙ sym (get_or-set_same heads (hash / 18014398509481984) (length ws + 1) 0 (omega (arith, long)))
+        ∙ ap (λ (x : ℕ). get_or (set heads (hash / 18014398509481984) (length ws + 1)) x 0) (at ∙ eqb-true (bucket k) b d)
+    by_bucket false d =
+        ap (λ (c : Bool). cond c (words_of (recent ws) + 1) (newest b (recent ws))) d
+        ∙ sym (l b h)
+        ∙ sym (get_or-set_other heads (hash / 18014398509481984) b (length ws + 1) 0 (λ q. eqb-false (bucket k) b d (sym (q ∙ at))))
 
 -- a key that fits was written behind the used words: those that are used then
 pub record Pushed (all rest : List ℕ) (used now : ℕ) (k : List ℕ) : Type 0 where
-  pub long : length rest ≡ length all
   pub within : now ≤ room_of (length rest)
-  pub front : take now rest ≡ take used all ++ (header k ∷ k)
-  pub whole : Whole (take now rest)
-  pub keeps : member k (shelved (take used all)) ≡ false → Keeps (shelf_view (take used all) (room_of (length all))) k Kept (shelf_view (take now rest) (room_of (length rest)))
+  pub front : take now rest ≡ take used all ++ entry (recent (take used all)) k
+  pub short : length k < 65536
 
-pub pushed : (all rest : List ℕ) (used now : ℕ) (k : List ℕ) → used ≤ room_of (length all) → Whole (take used all)
+pub pushed : (all rest : List ℕ) (used now : ℕ) (k : List ℕ) → used ≤ room_of (length all)
     → fits (length k) (room_of (length all) - length (take used all) - 1) ≡ true → now ≡ used + 1 + length k
-    → rest ≡ (take used all ++ (header k ∷ k)) ++ drop (used + 1 + length k) all → Pushed all rest used now k
-pushed all rest used now k h w f n e = record {
-  long = same_long;
+    → rest ≡ (take used all ++ entry (recent (take used all)) k) ++ drop (used + 1 + length k) all → Pushed all rest used now k
+pushed all rest used now k h f n e = record {
   within = omega (arith, roomy, same_long);
-  front = first;
-  whole = subst Whole (sym first) (whole_push (take used all) k w short);
-  keeps = λ m. subst (λ (x : List ℕ). Keeps (shelf_view (take used all) (room_of (length all))) k Kept (shelf_view x (room_of (length rest)))) (sym first)
-      (subst (λ (x : ℕ). Keeps (shelf_view (take used all) (room_of (length all))) k Kept (shelf_view (take used all ++ (header k ∷ k)) (room_of x))) (sym same_long)
-      (Keeps.joins (shelf_view (take used all ++ (header k ∷ k)) (room_of (length all))) m f (joined_by (take used all) k (room_of (length all)) w short)));
+  front = ap₂ take n e ∙ take_at (take used all ++ entry (recent (take used all)) k) (drop (used + 1 + length k) all) (used + 1 + length k) long;
+  short = omega (arith, roomy);
 }
   where
     fit : Fitting (length k) (room_of (length all) - length (take used all) - 1)
@@ -198,15 +368,27 @@ pushed all rest used now k h w f n e = record {
     roomy : used + 1 + length k ≤ room_of (length all)
     roomy = omega (arith, fit.some, fit.within, length-take-le used all (omega arith))
 
-    short : length k < 65536
-    short = omega (arith, roomy)
+    long : length (take used all ++ entry (recent (take used all)) k) ≡ used + 1 + length k
+    long = length-append (take used all) (entry (recent (take used all)) k) ∙ omega (arith, length-take-le used all (omega (arith, roomy)))
 
     same_long : length rest ≡ length all
-    same_long = ap length e ∙ length-append (take used all ++ (header k ∷ k)) (drop (used + 1 + length k) all)
-        ∙ omega (arith, roomy, pushed_length all used k (omega arith), length-drop (used + 1 + length k) all)
+    same_long = ap length e ∙ length-append (take used all ++ entry (recent (take used all)) k) (drop (used + 1 + length k) all)
+        ∙ omega (arith, roomy, long, length-drop (used + 1 + length k) all)
 
-    first : take now rest ≡ take used all ++ (header k ∷ k)
-    first = ap₂ take n e ∙ take_at (take used all ++ (header k ∷ k)) (drop (used + 1 + length k) all) (used + 1 + length k) (pushed_length all used k (omega arith))
+-- a key that fits joins the others
+pub kept_more : (ws vs rest all k : List ℕ) → Whole ws → length ws ≤ length all → member k (shelved ws) ≡ false → fits (length k) (room_of (length all) - length ws - 1) ≡ true
+    → vs ≡ ws ++ entry (recent ws) k → rest ≡ vs ++ drop (length vs) all → Keeps (shelf_view ws (room_of (length all))) k Kept (shelf_view vs (room_of (length rest)))
+kept_more ws vs rest all k w l m f e d =
+    subst (λ (x : List ℕ). Keeps (shelf_view ws (room_of (length all))) k Kept (shelf_view x (room_of (length rest)))) (sym e)
+    (subst (λ (x : ℕ). Keeps (shelf_view ws (room_of (length all))) k Kept (shelf_view (ws ++ entry (recent ws) k) (room_of x))) (sym same_long)
+    (Keeps.joins (shelf_view (ws ++ entry (recent ws) k) (room_of (length all))) m f (joined_by ws k (room_of (length all)) w (omega (arith, fit.some, fit.within)))))
+  where
+    fit : Fitting (length k) (room_of (length all) - length ws - 1)
+    fit = fitting (length k) (room_of (length all) - length ws - 1) f
+
+    same_long : length rest ≡ length all
+    same_long = ap length d ∙ length-append vs (drop (length vs) all)
+        ∙ omega (arith, fit.some, fit.within, ap length e, length-append ws (entry (recent ws) k), length-drop (length vs) all)
 
 -- a key that is empty or too long does not fit
 pub fits_not : (n room used : ℕ) → (n ≡ 0) ⊎ (room - used ≤ n) → fits n (room - used - 1) ≡ false

@@ -1,5 +1,5 @@
 -- The shelf: keys one after the other in lent words, each behind a header word.
-use Rattle.std.specs.Prelude.{◌≡◌, ℕ, zero, suc, ◌+◌, ◌-◌, ◌*◌, ◌/◌, ◌%◌, ◌^◌, min, cond, List, [], ◌∷◌, ◌++◌, length, take, drop}
+use Rattle.std.specs.Prelude.{◌≡◌, ℕ, zero, suc, ◌+◌, ◌-◌, ◌*◌, ◌/◌, ◌%◌, ◌^◌, ◌<◌, min, cond, nat_eq, List, [], ◌∷◌, ◌++◌, length, take, drop, reverse, slice_index}
 use Rattle.stores.specs.Stores.{View, member, fits}
 use Rattle.stores.specs.declared.store.Stored.{Stored}
 use Rattle.stores.specs.declared.store.Stored.TheVariants.{Kept, Lost}
@@ -8,21 +8,47 @@ use Rattle.stores.specs.declared.store.Stored.TheVariants.{Kept, Lost}
 abbrev pub room_of : ℕ → ℕ
 room_of words = min words 65536
 
--- a hash of the key's words, in 64 bits
+-- a hash of the key's words, in 64 bits, four words at a time
+abbrev pub mixed : ℕ → ℕ → ℕ
+mixed h w = ((h + w) * 0x9E3779B97F4A7C15) % 2 ^ 64
+
 abbrev pub hash_from : ℕ → List ℕ → ℕ
 hash_from h [] = h
-hash_from h (w ∷ ws) = hash_from ((h * 0x9E3779B97F4A7C15 + w) % 2 ^ 64) ws
+hash_from h (a ∷ (b ∷ (c ∷ (d ∷ ws)))) = hash_from ((mixed h a + b * 0xC2B2AE3D27D4EB4F + c * 0x165667B19E3779F9 + d * 0xD6E8FEB86659FD93) % 2 ^ 64) ws
+hash_from h (w ∷ ws) = hash_from (mixed h w) ws
 
--- the header of a key: its length in the low 16 bits, above them the high 48 bits of its hash
-abbrev pub header : List ℕ → ℕ
-header k = hash_from 0 k / 65536 * 65536 + length k
+abbrev pub hash_of : List ℕ → ℕ
+hash_of k = hash_from 0 k
 
--- the words that hold these keys
+-- the bucket that a key is in, of 1,024, by the high bits of its hash
+abbrev pub bucket : List ℕ → ℕ
+bucket k = hash_of k / 2 ^ 54
+
+-- the header of a key: its length in the low 16 bits, then a link in 16, above them the high 32 bits of its hash
+abbrev pub header : ℕ → List ℕ → ℕ
+header link k = hash_of k / 2 ^ 32 * 2 ^ 32 + link * 65536 + length k
+
+-- Keys as they lie in words, one behind the other; here they are listed the newest first.
+
+-- how many words they take
+abbrev pub words_of : List (List ℕ) → ℕ
+words_of [] = 0
+words_of (k ∷ older) = words_of older + (1 + length k)
+
+-- where the header of the newest key of this bucket lies, counted from 1, or 0 if there is none
+abbrev pub newest : ℕ → List (List ℕ) → ℕ
+newest b [] = 0
+newest b (k ∷ older) = cond (nat_eq (bucket k) b) (words_of older + 1) (newest b older)
+
+-- a key behind its header, which links it to the key of its bucket before it
+abbrev pub entry : List (List ℕ) → List ℕ → List ℕ
+entry older k = header (newest (bucket k) older) k ∷ k
+
 abbrev pub written : List (List ℕ) → List ℕ
 written [] = []
-written (k ∷ ks) = header k ∷ (k ++ written ks)
+written (k ∷ older) = written older ++ entry older k
 
--- the keys that these words hold; the number bounds them
+-- the keys that these words hold, the oldest first; the number bounds them
 abbrev pub keys_in : ℕ → List ℕ → List (List ℕ)
 keys_in zero ws = []
 keys_in (suc n) [] = []
@@ -33,7 +59,11 @@ shelved ws = keys_in (length ws) ws
 
 -- the words are whole keys behind their headers
 abbrev pub Whole : List ℕ → Type 0
-Whole ws = written (shelved ws) ≡ ws
+Whole ws = written (reverse (shelved ws)) ≡ ws
+
+-- the heads lead to the newest key of each bucket
+abbrev pub Leads : List ℕ → List ℕ → Type 0
+Leads heads ws = (b : ℕ) → b < 1024 → slice_index heads b ≡ newest b (reverse (shelved ws))
 
 -- a shelf by the words that are used and how many may be
 abbrev pub shelf_view : List ℕ → ℕ → View
@@ -44,4 +74,4 @@ abbrev pub shelf_keep : List ℕ → ℕ → List ℕ → Stored
 shelf_keep used room k = cond (member k (shelved used)) Kept (cond (fits (length k) (room - length used - 1)) Kept Lost)
 
 abbrev pub shelf_after : List ℕ → ℕ → List ℕ → List ℕ
-shelf_after used room k = cond (member k (shelved used)) used (cond (fits (length k) (room - length used - 1)) (used ++ header k ∷ k) used)
+shelf_after used room k = cond (member k (shelved used)) used (cond (fits (length k) (room - length used - 1)) (used ++ entry (reverse (shelved used)) k) used)

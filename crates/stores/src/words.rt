@@ -1,45 +1,26 @@
-// Keys in a row of words, each behind its header.
-ghost use Rattle.std.specs.Prelude.{◌≡◌, ◌<◌, length};
-ghost use Rattle.stores.specs.Stores.{member};
-ghost use Rattle.stores.specs.Shelves.{hash_from, header, shelved, Whole};
+// The hash of a key.
+ghost use Rattle.std.specs.Prelude.{◌≡◌};
+ghost use Rattle.stores.specs.Shelves.{mixed, hash_of};
 
-// A header's low part, the key's length, is below this.
-const LENGTHS: u64 = 65536;
-
-// A hash of the words.
-fn hash(words: &[u64]) -> u64
-    ensures { result ≡ hash_from 0 words.now }
+// One word more.
+fn mix(hash: u64, word: u64) -> u64
+    ensures { result ≡ mixed hash word }
 {
-    words.iter().fold(
-        0u64,
-        |h, w| h.wrapping_mul(0x9E3779B97F4A7C15).wrapping_add(*w),
-    )
+    hash.wrapping_add(word).wrapping_mul(0x9E3779B97F4A7C15)
 }
 
-// The header of a key: its length, and above that the high part of its hash.
-pub(crate) fn header_of(key: &[u64]) -> u64
-    requires { length key.now < 65536 }
-    ensures { result ≡ header key.now }
+// A hash of the words, four at a time: of four multiplications three do not wait for the words before.
+pub(crate) fn hash_words(words: &[u64]) -> u64
+    ensures { result ≡ hash_of words.now }
 {
-    hash(key) / LENGTHS * LENGTHS + key.len() as u64
-}
-
-// Whether the words hold the key. A key is compared only where its header is the key's own, and passed over otherwise.
-pub(crate) fn holds(words: &[u64], key: &[u64]) -> bool
-    requires { Whole words.now }
-    ensures { result ≡ member key.now (shelved words.now) }
-{
-    if key.len() >= 65536 {
-        return false;
-    }
-    let wanted = header_of(key);
+    let mut hash = 0;
     let mut left = words;
-    while let [header, rest @ ..] = left {
-        let (held, next) = rest.split_at((*header % LENGTHS) as usize);
-        if *header == wanted && key == held {
-            return true;
-        }
-        left = next;
+    while let [a, b, c, d, rest @ ..] = left {
+        hash = mix(hash, *a)
+            .wrapping_add(b.wrapping_mul(0xC2B2AE3D27D4EB4F))
+            .wrapping_add(c.wrapping_mul(0x165667B19E3779F9))
+            .wrapping_add(d.wrapping_mul(0xD6E8FEB86659FD93));
+        left = rest;
     }
-    false
+    left.iter().fold(hash, |h, w| mix(h, *w))
 }

@@ -1,15 +1,31 @@
 // What a shelf does.
-ghost use Rattle.std.specs.Prelude.{◌≡◌, ◌+◌, ◌<◌, ◌≤◌, [], ◌∷◌, ◌++◌, length, drop, IsTrue, false, not};
+ghost use Rattle.std.specs.Prelude.{◌≡◌, ℕ, ◌+◌, ◌<◌, ◌≤◌, slice_index, [], ◌∷◌, ◌++◌, length, drop, reverse, IsTrue, false, true, not};
 ghost use Rattle.stores.specs.Stores.{Keeps, member, fits};
-ghost use Rattle.stores.specs.Shelves.{header, shelf_keep, shelf_after};
+ghost use Rattle.stores.specs.Shelves.{hash_of, shelved, entry, shelf_keep, shelf_after};
 ghost use Rattle.stores.specs.Shown.{used_words, room, view_of};
 
-use crate::shelf::Shelf;
+use crate::shelf::{BUCKETS, Shelf};
 use crate::store::{Store, Stored};
-use crate::words::{header_of, holds};
+use crate::words::hash_words;
 
 // The most words that a shelf uses.
 const MOST_WORDS: usize = 65536;
+
+// A header's low part, the key's length, is below this, and so is its link, the part above.
+const LENGTHS: u64 = 65536;
+
+// What is above that is of the key's hash.
+const LINKS: u64 = 4294967296;
+
+// The bucket of a key with this hash.
+const HASHES: u64 = 18014398509481984;
+
+// The heads where no key is held.
+fn no_heads() -> [u16; BUCKETS]
+    ensures { (b : ℕ) → b < 1024 → slice_index result b ≡ 0 }
+{
+    [0; BUCKETS]
+}
 
 impl<'a> Shelf<'a> {
     // A shelf with no keys over the lent words.
@@ -17,7 +33,11 @@ impl<'a> Shelf<'a> {
         ensures used { used_words result ≡ [] }
         ensures words { result.words.now ≡ words.old }
     {
-        Shelf { words, used: 0 }
+        Shelf {
+            words,
+            heads: no_heads(),
+            used: 0,
+        }
     }
 
     // Whether a key of so many words fits.
@@ -27,16 +47,50 @@ impl<'a> Shelf<'a> {
         words > 0 && words < self.words.len().min(MOST_WORDS) - self.used
     }
 
-    // Writes the key behind its header, past the words that are used.
-    fn write(&mut self, key: &[u64])
-        requires short { length key.now < 65536 }
-        requires room { self.old.used + 1 + length key.now ≤ length self.old.words.now }
+    // Whether the key is held: a walk along its bucket's chain. A key is compared only where its header has the same length and the same part of the hash.
+    fn holds(&self, hash: u64, key: &[u64]) -> bool
+        requires { hash ≡ hash_of key.now }
+        ensures { result ≡ member key.now (shelved (used_words self.now)) }
+    {
+        let mut at = self.heads[(hash / HASHES) as usize] as usize;
+        while at > 0 {
+            let header = self.words[at - 1];
+            if header / LINKS == hash / LINKS
+                && header % LENGTHS == key.len() as u64
+                && key == &self.words[at..at + key.len()]
+            {
+                return true;
+            }
+            at = (header / LENGTHS % LENGTHS) as usize;
+        }
+        false
+    }
+
+    // Writes a header and the key behind it, past the words that are used.
+    fn write(&mut self, header: u64, key: &[u64])
+        requires { self.old.used + 1 + length key.now ≤ length self.old.words.now }
         ensures used { self.new.used ≡ self.old.used }
-        ensures words { self.new.words.now ≡ (used_words self.old ++ (header key.now ∷ key.now)) ++ drop (self.old.used + 1 + length key.now) self.old.words.now }
+        ensures heads { self.new.heads ≡ self.old.heads }
+        ensures words { self.new.words.now ≡ (used_words self.old ++ (header ∷ key.now)) ++ drop (self.old.used + 1 + length key.now) self.old.words.now }
     {
         let at = self.used;
-        self.words[at] = header_of(key);
+        self.words[at] = header;
         self.words[at + 1..at + 1 + key.len()].copy_from_slice(key);
+    }
+
+    // Takes in a key that fits, at the head of its bucket's chain.
+    fn add(&mut self, hash: u64, key: &[u64])
+        requires hash { hash ≡ hash_of key.now }
+        requires fits { fits (length key.now) (view_of self.old).space ≡ true }
+        ensures used { used_words self.new ≡ used_words self.old ++ entry (reverse (shelved (used_words self.old))) key.now }
+        ensures words { self.new.words.now ≡ used_words self.new ++ drop (length (used_words self.new)) self.old.words.now }
+    {
+        let bucket = (hash / HASHES) as usize;
+        let link = self.heads[bucket] as u64;
+        let header = hash / LINKS * LINKS + link * LENGTHS + key.len() as u64;
+        self.write(header, key);
+        self.heads[bucket] = (self.used + 1) as u16;
+        self.used += 1 + key.len();
     }
 }
 
@@ -48,11 +102,12 @@ impl<'a> Store for Shelf<'a> {
         ensures used { used_words self.new ≡ [] }
         ensures words { self.new.words.now ≡ self.old.words.now }
     {
+        self.heads = no_heads();
         self.used = 0;
     }
 
     fn find(&self, key: &[u64]) -> bool {
-        holds(&self.words[0..self.used], key)
+        self.holds(hash_words(key), key)
     }
 
     fn is_empty(&self) -> bool {
@@ -72,14 +127,14 @@ impl<'a> Store for Shelf<'a> {
         ensures used { used_words self.new ≡ shelf_after (used_words self.old) (room self.old) key.now }
         ensures words { self.new.words.now ≡ used_words self.new ++ drop (length (used_words self.new)) self.old.words.now }
     {
-        if self.find(key) {
+        let hash = hash_words(key);
+        if self.holds(hash, key) {
             return Stored::Kept;
         }
         if !self.fits(key.len()) {
             return Stored::Lost;
         }
-        self.write(key);
-        self.used += 1 + key.len();
+        self.add(hash, key);
         Stored::Kept
     }
 }
