@@ -1,10 +1,10 @@
 -- The two stores behave as the cases take it.
-use Rattle.std.proofs.Common.{◌≡◌, ℕ, ◌-◌, ◌<◌, ◌≤◌, Bool, true, false, cond, ltb, leb, List, ◌++◌, length, reverse, sym, refl, ap, ap₂, inr, arith}
+use Rattle.std.proofs.Common.{◌≡◌, ℕ, ◌-◌, ◌<◌, ◌≤◌, Bool, true, false, cond, ltb, leb, List, ◌++◌, length, sym, refl, ap, ap₂, inr, arith}
 use Rattle.std.proofs.lemmas.List.{length-append}
 use Rattle.std.proofs.lemmas.Bool.{and_parts, ltb-true, leb-true}
 use Rattle.stores.specs.Stores.{View, member, fits}
 use Rattle.stores.specs.Bare.{nothing}
-use Rattle.stores.specs.Shelves.{shelved, entry, Whole, shelf_view}
+use Rattle.stores.specs.Shelves.{shelved, recent, entry, Whole, shelf_view}
 use Rattle.stores.specs.declared.store.Stored.TheVariants.{Kept, Lost}
 use Rattle.stores.proofs.Shelving.{shelved_push, fits_not}
 use Rattle.cases.specs.Shelving.{answer_by, left_by, StoresBehave}
@@ -20,12 +20,12 @@ short n room used h f =
     let p = and_parts (ltb 0 n) (leb n (room - used - 1)) f in omega (arith, ltb-true 0 n p.0, leb-true n (room - used - 1) p.1)
 
 pushed : (room : ℕ) (used k : List ℕ) → Whole used → length k < 65536
-    → left_by (shelf_view used room) k false true ≡ shelf_view (used ++ entry (reverse (shelved used)) k) room
+    → left_by (shelf_view used room) k false true ≡ shelf_view (used ++ entry (recent used) k) room
 pushed room used k w h =
-    ap₂ {C = View} (λ (x : List (List ℕ)) (n : ℕ). record { held = x; space = n }) (sym (shelved_push used k w h)) (omega (arith, length-append used (entry (reverse (shelved used)) k)))
+    ap₂ {C = View} (λ (x : List (List ℕ)) (n : ℕ). record { held = x; space = n }) (sym (shelved_push used k w h)) (omega (arith, length-append used (entry (recent used) k)))
 
 leaves : (room : ℕ) (used k : List ℕ) → room ≤ 65536 → Whole used → (a b : Bool) → fits (length k) (room - length used - 1) ≡ b
-    → left_by (shelf_view used room) k a b ≡ shelf_view (cond a used (cond b (used ++ entry (reverse (shelved used)) k) used)) room
+    → left_by (shelf_view used room) k a b ≡ shelf_view (cond a used (cond b (used ++ entry (recent used) k) used)) room
 leaves room used k h w true b e = refl
 leaves room used k h w false true e = pushed room used k w (short (length k) room (length used) h e)
 leaves room used k h w false false e = refl

@@ -6,7 +6,7 @@ use Rattle.std.proofs.Math.Seq.{get_or-append_seam}
 use Rattle.std.specs.Str.{bytes_eq}
 use Rattle.sets.specs.Placings.{same}
 use Rattle.stores.specs.Stores.{member, Joined, Keeps, fits}
-use Rattle.stores.specs.Shelves.{hash_of, bucket, header, words_of, newest, entry, written, keys_in, shelved, Whole, Leads, room_of, shelf_view}
+use Rattle.stores.specs.Shelves.{hash_of, bucket, header, words_of, newest, entry, written, keys_in, shelved, recent, Whole, Leads, room_of, shelf_view}
 use Rattle.stores.specs.declared.store.Stored.TheVariants.{Kept}
 use Rattle.stores.proofs.Keeping.{Fitting, fitting}
 use Rattle.sets.proofs.Lists.{same_is}
@@ -116,10 +116,6 @@ runs_written (k ∷ ks) s =
 -- what is written is read back
 read_back : (ks : List (List ℕ)) → Short ks → shelved (written ks) ≡ reverse ks
 read_back ks s = runs_read (written ks) (reverse ks) (runs_written ks s)
-
--- the keys that words hold, the newest first
-abbrev pub recent : List ℕ → List (List ℕ)
-recent ws = reverse (shelved ws)
 
 recent_short : (ws : List ℕ) → Short (recent ws)
 recent_short ws = short_reverse (shelved ws) (keys_short (length ws) ws)

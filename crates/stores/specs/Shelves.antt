@@ -57,13 +57,16 @@ keys_in (suc n) (h ∷ ws) = take (h % 65536) ws ∷ keys_in n (drop (h % 65536)
 abbrev pub shelved : List ℕ → List (List ℕ)
 shelved ws = keys_in (length ws) ws
 
+abbrev pub recent : List ℕ → List (List ℕ)
+recent ws = reverse (shelved ws)
+
 -- the words are whole keys behind their headers
 abbrev pub Whole : List ℕ → Type 0
-Whole ws = written (reverse (shelved ws)) ≡ ws
+Whole ws = written (recent ws) ≡ ws
 
--- the heads lead to the newest key of each bucket
+-- the heads tell where each bucket's newest key lies
 abbrev pub Leads : List ℕ → List ℕ → Type 0
-Leads heads ws = (b : ℕ) → b < 1024 → slice_index heads b ≡ newest b (reverse (shelved ws))
+Leads heads ws = (b : ℕ) → b < 1024 → slice_index heads b ≡ newest b (recent ws)
 
 -- a shelf by the words that are used and how many may be
 abbrev pub shelf_view : List ℕ → ℕ → View
@@ -74,4 +77,4 @@ abbrev pub shelf_keep : List ℕ → ℕ → List ℕ → Stored
 shelf_keep used room k = cond (member k (shelved used)) Kept (cond (fits (length k) (room - length used - 1)) Kept Lost)
 
 abbrev pub shelf_after : List ℕ → ℕ → List ℕ → List ℕ
-shelf_after used room k = cond (member k (shelved used)) used (cond (fits (length k) (room - length used - 1)) (used ++ entry (reverse (shelved used)) k) used)
+shelf_after used room k = cond (member k (shelved used)) used (cond (fits (length k) (room - length used - 1)) (used ++ entry (recent used) k) used)

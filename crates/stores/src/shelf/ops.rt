@@ -1,7 +1,7 @@
 // What a shelf does.
-ghost use Rattle.std.specs.Prelude.{◌≡◌, ℕ, ◌+◌, ◌<◌, ◌≤◌, slice_index, [], ◌∷◌, ◌++◌, length, drop, reverse, IsTrue, false, true, not};
+ghost use Rattle.std.specs.Prelude.{◌≡◌, ℕ, ◌+◌, ◌<◌, ◌≤◌, slice_index, [], ◌∷◌, ◌++◌, length, drop, IsTrue, false, true, not};
 ghost use Rattle.stores.specs.Stores.{Keeps, member, fits};
-ghost use Rattle.stores.specs.Shelves.{hash_of, shelved, entry, shelf_keep, shelf_after};
+ghost use Rattle.stores.specs.Shelves.{hash_of, shelved, recent, entry, shelf_keep, shelf_after};
 ghost use Rattle.stores.specs.Shown.{used_words, room, view_of};
 
 use crate::shelf::{BUCKETS, Shelf};
@@ -11,14 +11,14 @@ use crate::words::hash_words;
 // The most words that a shelf uses.
 const MOST_WORDS: usize = 65536;
 
-// A header's low part, the key's length, is below this, and so is its link, the part above.
-const LENGTHS: u64 = 65536;
+// A header's low part, the key's length, is below this, and so is the part above, the link.
+const LENGTHS: u64 = 1 << 16;
 
-// What is above that is of the key's hash.
-const LINKS: u64 = 4294967296;
+// Both together are below this, and the high part of the key's hash is above.
+const LINKS: u64 = 1 << 32;
 
-// The bucket of a key with this hash.
-const HASHES: u64 = 18014398509481984;
+// A hash divided by this is below the number of buckets.
+const HASHES: u64 = 1 << 54;
 
 // The heads where no key is held.
 fn no_heads() -> [u16; BUCKETS]
@@ -82,7 +82,7 @@ impl<'a> Shelf<'a> {
     fn add(&mut self, hash: u64, key: &[u64])
         requires hash { hash ≡ hash_of key.now }
         requires fits { fits (length key.now) (view_of self.old).space ≡ true }
-        ensures used { used_words self.new ≡ used_words self.old ++ entry (reverse (shelved (used_words self.old))) key.now }
+        ensures used { used_words self.new ≡ used_words self.old ++ entry (recent (used_words self.old)) key.now }
         ensures words { self.new.words.now ≡ used_words self.new ++ drop (length (used_words self.new)) self.old.words.now }
     {
         let bucket = (hash / HASHES) as usize;

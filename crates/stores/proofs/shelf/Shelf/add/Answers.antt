@@ -1,7 +1,7 @@
 use Rattle.std.proofs.Common.{◌≡◌, ℕ, ◌+◌, ◌/◌, ◌∷◌, ◌++◌, List, length, get_or, set, take, drop, sym, ◌∙◌, ap, ap₂, subst, arith}
 use Rattle.std.proofs.lemmas.List.{length-take-le, length-set}
-use Rattle.stores.specs.Shelves.{Whole, newest}
-use Rattle.stores.proofs.Shelving.{recent, headed, pushed, whole_push, leads_push}
+use Rattle.stores.specs.Shelves.{Whole, newest, recent}
+use Rattle.stores.proofs.Shelving.{headed, pushed, whole_push, leads_push}
 use Rattle.stores.proofs.shelf.Shelf.add.Goals as goal
 
 pub invariant_of-self : goal.invariant_of-self

@@ -1,10 +1,10 @@
 use Rattle.std.proofs.Common.{◌≡◌, ℕ, ◌+◌, ◌-◌, ◌/◌, ◌%◌, ◌<◌, List, length, get_or, take, drop, sym, ap, subst, ◌∙◌, arith}
 use Rattle.std.specs.Str.{bytes_eq}
 use Rattle.sets.specs.Placings.{same}
-use Rattle.stores.specs.Shelves.{hash_of, newest}
+use Rattle.stores.specs.Shelves.{hash_of, newest, recent}
 use Rattle.stores.specs.Shown.{used_words}
 use Rattle.stores.specs.declared.shelf.Shelf.{Shelf}
-use Rattle.stores.proofs.Shelving.{recent, Walk, walk_begins, walk_ends, Stop, walk_stops, same_not, same_pointwise}
+use Rattle.stores.proofs.Shelving.{Walk, walk_begins, walk_ends, Stop, walk_stops, same_not, same_pointwise}
 use Rattle.stores.proofs.shelf.Shelf.holds.Goals as goal
 use Rattle.stores.proofs.shelf.Shelf.holds.Goals.{else-header-hash-via-then-header-hash+then-header-key+else-eq, else-header-hash-via-then-header-hash+else-header-key, else-header-hash-via-else-header-hash}
 
