@@ -125,8 +125,9 @@ def build_template():
 
 def compile_cc(name, libraries=()):
     os.makedirs(SCRATCH, exist_ok=True)
-    built = scratch(name)
-    call(['g++', '-std=c++17', '-O2', '-o', built, os.path.join(PERF, name + '.cc'), *[f'-l{it}' for it in libraries]])
+    built, source = scratch(name), os.path.join(PERF, name + '.cc')
+    if not os.path.exists(built) or os.path.getmtime(built) < os.path.getmtime(source):
+        call(['g++', '-std=c++17', '-O2', '-o', built, source, *[f'-l{it}' for it in libraries]])
     return built
 
 
