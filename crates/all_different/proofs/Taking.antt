@@ -11,7 +11,8 @@ use Rattle.sets.specs.Placings.{changed}
 use Rattle.std.specs.List.{list_all, list_any}
 use Rattle.sets.specs.Sets.{has, fixed, least}
 use Rattle.all_different.specs.Differing.{spares, takes, used, all_placed}
-use Rattle.narrowing.specs.Shared.{at, cut, cuts, distinct, settled, open_with}
+use Rattle.narrowing.specs.Shared.{at, cut, cuts, distinct}
+use Rattle.rows.specs.declared.trace.Trace.TheVariants.{Settled, Open}
 use Rattle.sets.proofs.Masks.{mask_is, none_mask, has_not, has_or}
 use Rattle.sets.proofs.Membership.{fixed_pos, fixed_least, has_only, has_mask, mask_below, same_sets, least_below}
 use Rattle.narrowing.proofs.Cuts.{Each, Small, cuts_small, cuts_narrower}
@@ -208,14 +209,14 @@ placed_counted ms s h = let counted = count_distinct (placed ms s) (placed_below
 ]
 
 -- the trace, by that count: u is the set of the values
-pub trace_settled : (ms : List Member) (s : List ℕ) (u : ℕ) → Small s → u ≡ used ms s → ones u ≡ length ms → settled ≡ cond (all_placed ms s) settled (open_with (used ms s))
+pub trace_settled : (ms : List Member) (s : List ℕ) (u : ℕ) → Small s → u ≡ used ms s → ones u ≡ length ms → Settled ≡ cond (all_placed ms s) Settled (Open (used ms s))
 trace_settled ms s u h a e =
-    ap (λ (b : Bool). cond b settled (open_with (used ms s))) (sym (placed_counted ms s h ∙ eq-eqb (ones (used ms s)) (length ms) (ap ones (sym a) ∙ e)))
+    ap (λ (b : Bool). cond b Settled (Open (used ms s))) (sym (placed_counted ms s h ∙ eq-eqb (ones (used ms s)) (length ms) (ap ones (sym a) ∙ e)))
 
-pub trace_open : (ms : List Member) (s : List ℕ) (u : ℕ) → Small s → u ≡ used ms s → (ones u ≡ length ms → ⊥) → open_with u ≡ cond (all_placed ms s) settled (open_with (used ms s))
+pub trace_open : (ms : List Member) (s : List ℕ) (u : ℕ) → Small s → u ≡ used ms s → (ones u ≡ length ms → ⊥) → Open u ≡ cond (all_placed ms s) Settled (Open (used ms s))
 trace_open ms s u h a n =
-    ap open_with a
-    ∙ ap (λ (b : Bool). cond b settled (open_with (used ms s))) (sym (placed_counted ms s h ∙ ne_eqb (ones (used ms s)) (length ms) (λ e. n (ap ones a ∙ e))))
+    ap Open a
+    ∙ ap (λ (b : Bool). cond b Settled (Open (used ms s))) (sym (placed_counted ms s h ∙ ne_eqb (ones (used ms s)) (length ms) (λ e. n (ap ones a ∙ e))))
 
 -- ---- voices that differ
 

@@ -4,7 +4,8 @@ use Rattle.sets.specs.Sets.{fixed, least, mask}
 use Rattle.std.specs.List.{list_all, list_any}
 use Rattle.rows.specs.declared.member.Member.{Member}
 use Rattle.rows.specs.Rows.{RowData, KindMeaning}
-use Rattle.narrowing.specs.Shared.{cuts, at, distinct, shaped, verdict, declared, settled, open_with}
+use Rattle.narrowing.specs.Shared.{cuts, at, distinct, shaped, verdict, declared}
+use Rattle.rows.specs.declared.trace.Trace.TheVariants.{Settled, Open}
 
 -- the value w may stay with the member n when m, whose set is s, has its moment: m is not fixed, or n is m, or w is not m's value
 abbrev pub spares : Member → ℕ → Member → ℕ → Bool
@@ -34,5 +35,5 @@ all_different = record {
   accepts = λ r n. verdict (shaped 0x41 1 r) (declared n r) (differing_rule r);
   holds = λ r p. distinct (map (at p) r.members);
   turn = λ r s. takes r.members r.members s;
-  trace = λ r s. cond (all_placed r.members s) settled (open_with (used r.members s));
+  trace = λ r s. cond (all_placed r.members s) Settled (Open (used r.members s));
 }

@@ -12,7 +12,8 @@ use Rattle.sets.specs.Placings.{some_empty, all_fixed, Proper, Within, Narrower,
 use Rattle.std.specs.List.{list_all, list_any}
 use Rattle.sets.specs.Sets.{has, fixed, least, mask}
 use Rattle.all_different.specs.Differing.{spares, takes, all_different, differing_rule}
-use Rattle.narrowing.specs.Shared.{at, cuts, distinct, shaped, declared, settled, open_with}
+use Rattle.narrowing.specs.Shared.{at, cuts, distinct, shaped, declared}
+use Rattle.rows.specs.declared.trace.Trace.TheVariants.{Settled, Open}
 use Rattle.sets.proofs.Membership.{has_mask, mask_below, has_above, has_none, has_least, same_sets, ones_less, ones_zero}
 use Rattle.narrowing.proofs.Cuts.{Each, all_each, each_map, each_both, none_each, any_same, all_same, map_same, Declared, Small, proper_small, fixed_place, cuts_small, cuts_narrower, cuts_within, cuts_more, cuts_nothing, squeezed, narrower_refl, narrower_trans}
 use Rattle.narrowing.proofs.Members.{lettered_by, shaped_by, verdict_parts, stays_verdict, accepted_members, at_more, fixed_value, value_below, Twins, twins, at_twins, same_mark, same_content, checks_by}
@@ -253,7 +254,7 @@ abbrev content_of : List ℕ → List Member → ℕ
 content_of s ms = mask 64 (λ v. list_any (fixed_as s v) ms)
 
 projects : (s t p q : List ℕ) (ms : List Member) → Twins s t p q → Declared (length s) ms
-    → cond (done s ms) settled (open_with (content_of s ms)) ≡ cond (done t ms) settled (open_with (content_of t ms)) → distinct (map (at p) ms) ≡ distinct (map (at q) ms)
+    → cond (done s ms) Settled (Open (content_of s ms)) ≡ cond (done t ms) Settled (Open (content_of t ms)) → distinct (map (at p) ms) ≡ distinct (map (at q) ms)
 projects s t p q ms w d e =
     let mark : done s ms ≡ done t ms = same_mark (done s ms) (done t ms) (content_of s ms) (content_of t ms) e in
     elim (cases_Bool (done s ms)) [
@@ -274,7 +275,7 @@ all_different_lawful = record {
   turn_more = λ r s t a. takes_more r.members r.members s t (members r s a) (members r s a);
   trace_more = λ r s t a.
       let same = at_more r.members s t (members r s a) in
-      ap₂ (λ (b : Bool) (c : ℕ). cond b settled (open_with c))
+      ap₂ (λ (b : Bool) (c : ℕ). cond b Settled (Open c))
       (ap₂ ◌&&◌ (all_same (λ m. fixed (at (s ++ t) m)) (λ m. fixed (at s m)) r.members (each_map (λ m. at (s ++ t) m ≡ at s m) (λ m. fixed (at (s ++ t) m) ≡ fixed (at s m)) r.members (λ m e. ap fixed e) same))
       (ap distinct (map_same (λ m. least (at (s ++ t) m)) (λ m. least (at s m)) r.members (each_map (λ m. at (s ++ t) m ≡ at s m) (λ m. least (at (s ++ t) m) ≡ least (at s m)) r.members (λ m e. ap least e) same))))
       (ap (mask 64) (fun_ext (λ v. any_same (fixed_as (s ++ t) v) (fixed_as s v) r.members

@@ -2,10 +2,11 @@
 use Rattle.std.specs.Prelude.{ℕ, ◌-◌, Bool, false, cond, not, ◌&&◌, List, [], ◌∷◌, take, ◌==◌, nat_lt, unsigned_abs}
 use Rattle.std.specs.Int.Signed.{non_neg}
 use Rattle.sets.specs.Sets.{sift}
-use Rattle.std.specs.List.{list_all, list_any}
+use Rattle.std.specs.List.{filter, list_all, list_any}
 use Rattle.rows.specs.declared.member.Member.{Member}
 use Rattle.rows.specs.Rows.{RowData, KindMeaning}
-use Rattle.narrowing.specs.Shared.{cuts, at, shaped, verdict, declared, settled, open_with}
+use Rattle.narrowing.specs.Shared.{cuts, at, shaped, verdict, declared}
+use Rattle.rows.specs.declared.trace.Trace.TheVariants.{Settled, Open}
 
 -- what the literal says of the voice's value: it is the argument; from 64 on, it is not the argument less 64
 abbrev pub says : Member → ℕ → Bool
@@ -21,11 +22,6 @@ certain s m = sift (λ v. not (says m v)) (at s m) == 0
 -- true for some value of its set: not refuted
 abbrev pub stands : List ℕ → Member → Bool
 stands s m = not (refuted s m)
-
--- the elements that pass
-abbrev pub chosen : {A : Type 0} → (A → Bool) → List A → List A
-chosen f [] = []
-chosen f (x ∷ xs) = cond (f x) (x ∷ chosen f xs) (chosen f xs)
 
 -- by the literals that are not refuted: none, and the first member's set becomes empty; one, and its set loses the values that make it false
 abbrev pub units : List Member → List Member → List ℕ → List ℕ
@@ -46,6 +42,6 @@ clause = record {
   body_length = 1;
   accepts = λ r n. verdict (shaped 0x43 1 r) (declared n r) (clause_rule r);
   holds = λ r p. list_any (λ m. says m (at p m)) r.members;
-  turn = λ r s. units (chosen (stands s) r.members) r.members s;
-  trace = λ r s. cond (list_any (certain s) r.members) settled (open_with 0);
+  turn = λ r s. units (filter (stands s) r.members) r.members s;
+  trace = λ r s. cond (list_any (certain s) r.members) Settled (Open 0);
 }

@@ -6,10 +6,11 @@ use Rattle.rows.specs.Laws.{Laws}
 use Rattle.rows.specs.Rows.{alone, RowData}
 use Rattle.rows.specs.declared.member.Member.{Member}
 use Rattle.sets.specs.Placings.{some_empty, all_fixed, Proper, Within, Narrower, values}
-use Rattle.std.specs.List.{list_any}
+use Rattle.std.specs.List.{filter, list_any}
 use Rattle.sets.specs.Sets.{has, fixed, least, sift}
-use Rattle.clause.specs.Literals.{says, refuted, certain, chosen, units, clause, clause_rule}
-use Rattle.narrowing.specs.Shared.{at, shaped, declared, settled, open_with}
+use Rattle.clause.specs.Literals.{says, refuted, certain, units, clause, clause_rule}
+use Rattle.narrowing.specs.Shared.{at, shaped, declared}
+use Rattle.rows.specs.declared.trace.Trace.TheVariants.{Settled, Open}
 use Rattle.sets.proofs.Membership.{has_sift, has_none, has_below, has_least, sift_below, sift_part, fixed_member}
 use Rattle.narrowing.proofs.Cuts.{Each, each_map, each_both, none_each, any_same, Declared, Small, proper_small, fixed_place, cuts_small, cuts_narrower, cuts_within, cuts_more, cuts_nothing, narrower_refl}
 use Rattle.narrowing.proofs.Members.{lettered_by, shaped_by, verdict_parts, stays_verdict, accepted_members, shaped_long, at_more, Twins, twins, at_twins, same_mark, checks_by}
@@ -17,43 +18,43 @@ use Rattle.sets.proofs.Lists.{value_place}
 
 -- ---- the members that are chosen
 
-chosen_pass : {A : Type 0} (f : A → Bool) (xs : List A) → Each (λ x. f x ≡ true) (chosen f xs)
-chosen_pass f [] = tt
-chosen_pass f (x ∷ xs) = go (f x) refl (chosen_pass f xs)
+filter_pass : {A : Type 0} (f : A → Bool) (xs : List A) → Each (λ x. f x ≡ true) (filter f xs)
+filter_pass f [] = tt
+filter_pass f (x ∷ xs) = go (f x) refl (filter_pass f xs)
   where
-    go : (b : Bool) → f x ≡ b → Each (λ x. f x ≡ true) (chosen f xs) → Each (λ x. f x ≡ true) (cond b (x ∷ chosen f xs) (chosen f xs))
+    go : (b : Bool) → f x ≡ b → Each (λ x. f x ≡ true) (filter f xs) → Each (λ x. f x ≡ true) (cond b (x ∷ filter f xs) (filter f xs))
     go true e d = (e, d)
     go false e d = d
 
-chosen_each : {A : Type 0} (P : A → Type 0) (f : A → Bool) (xs : List A) → Each P xs → Each P (chosen f xs)
-chosen_each P f [] d = tt
-chosen_each P f (x ∷ xs) d = go (f x) d.0 (chosen_each P f xs d.1)
+filter_each : {A : Type 0} (P : A → Type 0) (f : A → Bool) (xs : List A) → Each P xs → Each P (filter f xs)
+filter_each P f [] d = tt
+filter_each P f (x ∷ xs) d = go (f x) d.0 (filter_each P f xs d.1)
   where
-    go : (b : Bool) → P x → Each P (chosen f xs) → Each P (cond b (x ∷ chosen f xs) (chosen f xs))
+    go : (b : Bool) → P x → Each P (filter f xs) → Each P (cond b (x ∷ filter f xs) (filter f xs))
     go true e d = (e, d)
     go false e d = d
 
-chosen_any : {A : Type 0} (f g : A → Bool) (xs : List A) → Each (λ x. g x ≡ true → f x ≡ true) xs → list_any g xs ≡ true → list_any g (chosen f xs) ≡ true
-chosen_any f g [] d e = e
-chosen_any f g (x ∷ xs) d e = go (f x) refl (or_cases (g x) (list_any g xs) e) (chosen_any f g xs d.1)
+filter_any : {A : Type 0} (f g : A → Bool) (xs : List A) → Each (λ x. g x ≡ true → f x ≡ true) xs → list_any g xs ≡ true → list_any g (filter f xs) ≡ true
+filter_any f g [] d e = e
+filter_any f g (x ∷ xs) d e = go (f x) refl (or_cases (g x) (list_any g xs) e) (filter_any f g xs d.1)
   where
-    go : (b : Bool) → f x ≡ b → (g x ≡ true) ⊎ (list_any g xs ≡ true) → (list_any g xs ≡ true → list_any g (chosen f xs) ≡ true) → list_any g (cond b (x ∷ chosen f xs) (chosen f xs)) ≡ true
-    go true p (inl k) rest = or_left (g x) (list_any g (chosen f xs)) k
-    go true p (inr k) rest = or_right (g x) (list_any g (chosen f xs)) (rest k)
+    go : (b : Bool) → f x ≡ b → (g x ≡ true) ⊎ (list_any g xs ≡ true) → (list_any g xs ≡ true → list_any g (filter f xs) ≡ true) → list_any g (cond b (x ∷ filter f xs) (filter f xs)) ≡ true
+    go true p (inl k) rest = or_left (g x) (list_any g (filter f xs)) k
+    go true p (inr k) rest = or_right (g x) (list_any g (filter f xs)) (rest k)
     go false p (inl k) rest = absurd (both_ways (f x) p (d.0 k))
     go false p (inr k) rest = rest k
 
-chosen_back : {A : Type 0} (f g : A → Bool) (xs : List A) → list_any g (chosen f xs) ≡ true → list_any g xs ≡ true
-chosen_back f g [] e = e
-chosen_back f g (x ∷ xs) e = go (f x) (chosen_back f g xs) e
+filter_back : {A : Type 0} (f g : A → Bool) (xs : List A) → list_any g (filter f xs) ≡ true → list_any g xs ≡ true
+filter_back f g [] e = e
+filter_back f g (x ∷ xs) e = go (f x) (filter_back f g xs) e
   where
-    go : (b : Bool) → (list_any g (chosen f xs) ≡ true → list_any g xs ≡ true) → list_any g (cond b (x ∷ chosen f xs) (chosen f xs)) ≡ true → list_any g (x ∷ xs) ≡ true
-    go true rest e = elim (or_cases (g x) (list_any g (chosen f xs)) e) [ inl k ↦ or_left (g x) (list_any g xs) k | inr k ↦ or_right (g x) (list_any g xs) (rest k) ]
+    go : (b : Bool) → (list_any g (filter f xs) ≡ true → list_any g xs ≡ true) → list_any g (cond b (x ∷ filter f xs) (filter f xs)) ≡ true → list_any g (x ∷ xs) ≡ true
+    go true rest e = elim (or_cases (g x) (list_any g (filter f xs)) e) [ inl k ↦ or_left (g x) (list_any g xs) k | inr k ↦ or_right (g x) (list_any g xs) (rest k) ]
     go false rest e = or_right (g x) (list_any g xs) (rest e)
 
-chosen_same : {A : Type 0} (f g : A → Bool) (xs : List A) → Each (λ x. f x ≡ g x) xs → chosen f xs ≡ chosen g xs
-chosen_same f g [] e = refl
-chosen_same f g (x ∷ xs) e = ap₂ (λ b ys. cond b (x ∷ ys) ys) e.0 (chosen_same f g xs e.1)
+filter_same : {A : Type 0} (f g : A → Bool) (xs : List A) → Each (λ x. f x ≡ g x) xs → filter f xs ≡ filter g xs
+filter_same f g [] e = refl
+filter_same f g (x ∷ xs) e = ap₂ (λ b ys. cond b (x ∷ ys) ys) e.0 (filter_same f g xs e.1)
 
 -- ---- a set of which no value passes, and one of which some does
 
@@ -117,10 +118,10 @@ Fine r s = clause.accepts r (length s) ≡ Ok tt
 members : (r : RowData) (s : List ℕ) → Fine r s → Declared (length s) r.members
 members r s a = accepted_members (shaped 0x43 1 r) (clause_rule r) r (length s) a
 
-sound : (r : RowData) (s p : List ℕ) → Fine r s → Proper s → Within p s → list_any (true_in p) r.members ≡ true → Within p (units (chosen (live s) r.members) r.members s)
+sound : (r : RowData) (s p : List ℕ) → Fine r s → Proper s → Within p s → list_any (true_in p) r.members ≡ true → Within p (units (filter (live s) r.members) r.members s)
 sound r s p a h w e =
-    units_within p (chosen (live s) r.members) r.members s (proper_small s h) w
-    (chosen_any (live s) (true_in p) r.members
+    units_within p (filter (live s) r.members) r.members s (proper_small s h) w
+    (filter_any (live s) (true_in p) r.members
     (each_map (λ m. m.voice < length s) (λ m. true_in p m ≡ true → live s m ≡ true) r.members
     (λ m l k. ap not (one_passes (says m) (at s m) (at p m) (proper_small s h m.voice) (w.each m.voice l) k)) (members r s a)) e)
 
@@ -135,12 +136,12 @@ still s (m ∷ l) ms h f c d dl e k =
     (ap (says m) (value_place s m.voice dl.0) ∙ fixed_passes (says m) (at s m) (proper_small s h m.voice) (fixed_place s m.voice f dl.0) (not-true (refuted s m) e.0)))
 
 checks : (r : RowData) (s : List ℕ) → Fine r s → Proper s → all_fixed s ≡ true → list_any (true_in (values s)) r.members ≡ false
-    → some_empty (units (chosen (live s) r.members) r.members s) ≡ true
+    → some_empty (units (filter (live s) r.members) r.members s) ≡ true
 checks r s a h f e =
-    let l = chosen (live s) r.members in
+    let l = filter (live s) r.members in
     checks_by (units l r.members s) s (list_any (true_in (values s)) r.members) (units_small l r.members s (proper_small s h)) (proper_small s h) (units_narrower l r.members s) f
-    (λ k. elim (still s l r.members h f (shaped_long 0x43 1 r (verdict_parts (shaped 0x43 1 r) (declared (length s) r) (clause_rule r) a).shape).0 (members r s a) (chosen_each (λ m. m.voice < length s) (live s) r.members (members r s a))
-    (chosen_pass (live s) r.members) k) [ inl b ↦ chosen_back (live s) (true_in (values s)) r.members b | inr b ↦ absurd b ]) e
+    (λ k. elim (still s l r.members h f (shaped_long 0x43 1 r (verdict_parts (shaped 0x43 1 r) (declared (length s) r) (clause_rule r) a).shape).0 (members r s a) (filter_each (λ m. m.voice < length s) (live s) r.members (members r s a))
+    (filter_pass (live s) r.members) k) [ inl b ↦ filter_back (live s) (true_in (values s)) r.members b | inr b ↦ absurd b ]) e
 
 -- a certain literal is true in each placing within the sets
 certain_true : (s p : List ℕ) (ms : List Member) → Small s → Within p s → Declared (length s) ms → list_any (certain s) ms ≡ true → list_any (true_in p) ms ≡ true
@@ -168,7 +169,7 @@ uncertain_all s t p q ms w d cs ct =
     (each_both (λ m. certain s m ≡ false) (λ m. certain t m ≡ false) (λ m. (certain s m ≡ false) × (certain t m ≡ false)) ms (λ m x y. (x, y)) (none_each (certain s) ms cs) (none_each (certain t) ms ct)))
 
 projects : (s t p q : List ℕ) (ms : List Member) → Twins s t p q → Declared (length s) ms
-    → cond (list_any (certain s) ms) settled (open_with 0) ≡ cond (list_any (certain t) ms) settled (open_with 0) → list_any (true_in p) ms ≡ list_any (true_in q) ms
+    → cond (list_any (certain s) ms) Settled (Open 0) ≡ cond (list_any (certain t) ms) Settled (Open 0) → list_any (true_in p) ms ≡ list_any (true_in q) ms
 projects s t p q ms w d e =
     let mark : list_any (certain s) ms ≡ list_any (certain t) ms = same_mark (list_any (certain s) ms) (list_any (certain t) ms) 0 0 e in
     elim (cases_Bool (list_any (certain s) ms)) [
@@ -180,7 +181,7 @@ pub clause_lawful : Laws (alone clause)
 clause_lawful = record {
   lettered = lettered_by clause refl (lit≤ tt) (lit≤ tt);
   shaped = λ r n a. shaped_by clause r (verdict_parts (shaped 0x43 1 r) (declared n r) (clause_rule r) a).shape;
-  narrows = λ r s a h. units_narrower (chosen (live s) r.members) r.members s;
+  narrows = λ r s a h. units_narrower (filter (live s) r.members) r.members s;
   sound = sound;
   checks = checks;
   projects = λ r s t p q a hs ht k e ws wt g. projects s t p q r.members (twins s t p q hs ht k ws wt g) (members r s a) e;
@@ -188,9 +189,9 @@ clause_lawful = record {
   holds_more = λ r p q a. any_same (true_in (p ++ q)) (true_in p) r.members
       (each_map (λ m. at (p ++ q) m ≡ at p m) (λ m. true_in (p ++ q) m ≡ true_in p m) r.members (λ m e. ap (says m) e) (at_more r.members p q (members r p a)));
   turn_more = λ r s t a.
-      ap (λ l. units l r.members (s ++ t)) (chosen_same (live (s ++ t)) (live s) r.members
+      ap (λ l. units l r.members (s ++ t)) (filter_same (live (s ++ t)) (live s) r.members
       (each_map (λ m. at (s ++ t) m ≡ at s m) (λ m. live (s ++ t) m ≡ live s m) r.members (λ m e. ap (λ (x : ℕ). not (sift (says m) x == 0)) e) (at_more r.members s t (members r s a))))
-      ∙ units_more (chosen (live s) r.members) r.members s t (chosen_each (λ m. m.voice < length s) (live s) r.members (members r s a)) (members r s a);
-  trace_more = λ r s t a. ap (λ b. cond b settled (open_with 0)) (any_same (certain (s ++ t)) (certain s) r.members
+      ∙ units_more (filter (live s) r.members) r.members s t (filter_each (λ m. m.voice < length s) (live s) r.members (members r s a)) (members r s a);
+  trace_more = λ r s t a. ap (λ b. cond b Settled (Open 0)) (any_same (certain (s ++ t)) (certain s) r.members
       (each_map (λ m. at (s ++ t) m ≡ at s m) (λ m. certain (s ++ t) m ≡ certain s m) r.members (λ m e. ap (λ (x : ℕ). nat_eq (sift (λ v. not (says m v)) x) 0) e) (at_more r.members s t (members r s a))));
 }

@@ -6,7 +6,8 @@ use Rattle.std.specs.List.{list_all}
 use Rattle.rows.specs.declared.member.Member.{Member}
 use Rattle.rows.specs.declared.trace.Trace.{Trace}
 use Rattle.rows.specs.Rows.{RowData, KindMeaning, byte}
-use Rattle.narrowing.specs.Shared.{cut, shaped, verdict, settled, open_with}
+use Rattle.narrowing.specs.Shared.{cut, shaped, verdict}
+use Rattle.rows.specs.declared.trace.Trace.TheVariants.{Settled, Open}
 
 -- the index voice and the result voice, after the count
 abbrev pub index : RowData → ℕ
@@ -40,10 +41,10 @@ meets r i v = nat_lt i (length r.members) && v == entry r.members i
 
 -- the trace, by whether the index's set i and the result's set v are fixed
 abbrev pub element_trace : RowData → ℕ → ℕ → Bool → Bool → Trace
-element_trace r i v true true = cond (meets r (least i) (least v)) settled (open_with 0)
-element_trace r i v true false = open_with (entry r.members (least i))
-element_trace r i v false true = open_with (least v)
-element_trace r i v false false = open_with 0
+element_trace r i v true true = cond (meets r (least i) (least v)) Settled (Open 0)
+element_trace r i v true false = Open (entry r.members (least i))
+element_trace r i v false true = Open (least v)
+element_trace r i v false false = Open 0
 
 -- an entry from 0 to 63, with a voice of 0, which names none
 abbrev pub is_entry : Member → Bool

@@ -3,7 +3,7 @@ use Rattle.std.specs.Prelude.{◌≡◌, ℕ, List, [], ◌∷◌, ℤ, pos, neg
 use Rattle.rows.specs.declared.fault.Fault.TheVariants.{Undeclared, RuleBroken}
 use Rattle.rows.specs.declared.member.Member.{Member}
 use Rattle.rows.specs.Rows.{RowData, alone, beside}
-use Rattle.narrowing.specs.Shared.{open_with, settled}
+use Rattle.rows.specs.declared.trace.Trace.TheVariants.{Settled, Open}
 use Rattle.all_different.specs.Differing.{all_different}
 use Rattle.linear.specs.Sums.{linear}
 use Rattle.clause.specs.Literals.{clause}
@@ -57,24 +57,24 @@ differs_arg = row 0x41 (1 ∷ []) (of 0 (negsuc 0) ∷ [])
 pub record CasesStand : Type 0 where
   pub differing_turn : all_different.turn differs_3 (2 ∷ 6 ∷ 12 ∷ []) ≡ 2 ∷ 4 ∷ 8 ∷ []
   pub sum_turn_idle : linear.turn sum_5 (8 ∷ 16 ∷ 32 ∷ 7 ∷ 7 ∷ []) ≡ 8 ∷ 16 ∷ 32 ∷ 7 ∷ 7 ∷ []
-  pub sum_trace : linear.trace sum_5 (8 ∷ 16 ∷ 32 ∷ 7 ∷ 7 ∷ []) ≡ open_with 4000016
-  pub sum_settled : linear.trace sum_5 (8 ∷ 16 ∷ 32 ∷ 7 ∷ 3 ∷ []) ≡ settled
+  pub sum_trace : linear.trace sum_5 (8 ∷ 16 ∷ 32 ∷ 7 ∷ 7 ∷ []) ≡ Open 4000016
+  pub sum_settled : linear.trace sum_5 (8 ∷ 16 ∷ 32 ∷ 7 ∷ 3 ∷ []) ≡ Settled
   pub sum_turn : linear.turn sum_2 (3 ∷ 3 ∷ []) ≡ 2 ∷ 2 ∷ []
   -- the turn is judged by the sets at its start, so voice 1 keeps both values until the next turn
   pub sum_turn_repeated : linear.turn sum_twice (15 ∷ 3 ∷ []) ≡ 4 ∷ 3 ∷ []
   pub clause_turn : clause.turn either_of (1 ∷ 12 ∷ []) ≡ 1 ∷ 8 ∷ []
   pub clause_all_refuted : clause.turn either_of (1 ∷ 4 ∷ []) ≡ 0 ∷ 4 ∷ []
-  pub clause_settled : clause.trace either_of (1 ∷ 8 ∷ []) ≡ settled
-  pub clause_open : clause.trace either_of (3 ∷ 12 ∷ []) ≡ open_with 0
+  pub clause_settled : clause.trace either_of (1 ∷ 8 ∷ []) ≡ Settled
+  pub clause_open : clause.trace either_of (3 ∷ 12 ∷ []) ≡ Open 0
   pub element_turn : element.turn entries (15 ∷ 48 ∷ []) ≡ 5 ∷ 16 ∷ []
-  pub element_result_fixed : element.trace entries (5 ∷ 16 ∷ []) ≡ open_with 4
-  pub element_index_fixed : element.trace entries (2 ∷ 48 ∷ []) ≡ open_with 7
-  pub element_index_past : element.trace entries (32 ∷ 48 ∷ []) ≡ open_with 64
-  pub element_none_fixed : element.trace entries (5 ∷ 48 ∷ []) ≡ open_with 0
-  pub element_missed : element.trace entries (2 ∷ 16 ∷ []) ≡ open_with 0
-  pub element_settled : element.trace entries (1 ∷ 16 ∷ []) ≡ settled
-  pub differing_trace : all_different.trace differs_4 (8 ∷ 16 ∷ 32 ∷ 7 ∷ []) ≡ open_with 56
-  pub differing_clash : all_different.trace differs_3 (2 ∷ 2 ∷ 4 ∷ []) ≡ open_with 6
+  pub element_result_fixed : element.trace entries (5 ∷ 16 ∷ []) ≡ Open 4
+  pub element_index_fixed : element.trace entries (2 ∷ 48 ∷ []) ≡ Open 7
+  pub element_index_past : element.trace entries (32 ∷ 48 ∷ []) ≡ Open 64
+  pub element_none_fixed : element.trace entries (5 ∷ 48 ∷ []) ≡ Open 0
+  pub element_missed : element.trace entries (2 ∷ 16 ∷ []) ≡ Open 0
+  pub element_settled : element.trace entries (1 ∷ 16 ∷ []) ≡ Settled
+  pub differing_trace : all_different.trace differs_4 (8 ∷ 16 ∷ 32 ∷ 7 ∷ []) ≡ Open 56
+  pub differing_clash : all_different.trace differs_3 (2 ∷ 2 ∷ 4 ∷ []) ≡ Open 6
   pub differing_repeated_voice : all_different.accepts differs_twice 1 ≡ Err RuleBroken
   pub differing_argument : all_different.accepts differs_arg 1 ≡ Err RuleBroken
   pub differing_accepted : all_different.accepts differs_3 3 ≡ Ok tt
@@ -90,4 +90,4 @@ pub record CasesStand : Type 0 where
   pub second_bank_turn : (beside (alone all_different) (beside (alone linear) (alone element))).turn entries (15 ∷ 48 ∷ []) ≡ 5 ∷ 16 ∷ []
   pub first_bank_accepts : (beside (alone all_different) (beside (alone linear) (alone element))).accepts differs_3 3 ≡ Ok tt
   pub no_bank_accepts : (beside (alone all_different) (beside (alone linear) (alone element))).accepts either_of 2 ≡ Err RuleBroken
-  pub differing_settled : all_different.trace differs_3 (2 ∷ 4 ∷ 8 ∷ []) ≡ settled
+  pub differing_settled : all_different.trace differs_3 (2 ∷ 4 ∷ 8 ∷ []) ≡ Settled

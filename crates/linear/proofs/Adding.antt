@@ -1,15 +1,14 @@
 -- Sums of signed products that stay near 0.
-use Rattle.std.proofs.Common.{◌≡◌, ℕ, suc, ◌+◌, ◌*◌, ◌^◌, ◌<◌, ◌≤◌, Bool, true, false, cond, List, [], ◌∷◌, ◌++◌, length, get_or, take, ℤ, pos, negsuc, ◌+ℤ◌, ◌*ℤ◌, neg_ℤ, sym, ap, ◌∙◌, ap₂, le_refl, arith, lit<, take_all, w16, w64, SFits, to_z, of_z}
-use lib.Signed.{non_neg}
-use Rattle.std.proofs.lemmas.Nat.{mul-le, trailing_le}
+use Rattle.std.proofs.Common.{◌≡◌, ℕ, suc, ◌+◌, ◌*◌, ◌^◌, ◌<◌, ◌≤◌, true, false, cond, List, [], ◌∷◌, ◌++◌, length, get_or, take, ℤ, pos, negsuc, ◌+ℤ◌, ◌*ℤ◌, neg_ℤ, sym, ap, ◌∙◌, ap₂, le_refl, arith, lit<, take_all, w16, w64, SFits, to_z, of_z}
+use Rattle.std.proofs.lemmas.Nat.{mul-le}
 use Rattle.std.proofs.lemmas.List.{take_more}
 use Rattle.std.proofs.lemmas.Int.{ints, to_z-of_z}
 use Rattle.rows.specs.declared.row.Row.{Row}
 use Rattle.rows.specs.Views.{row_of}
 use Rattle.rows.specs.declared.member.Member.{Member}
-use Rattle.sets.specs.Sets.{fixed, least, greatest}
+use Rattle.sets.specs.Sets.{fixed, least}
 use Rattle.narrowing.specs.Shared.{at}
-use Rattle.linear.specs.Sums.{term, low, high, placed, total, Near}
+use Rattle.linear.specs.Sums.{term, high, placed, total, Near}
 use Rattle.linear.specs.SumsLaws.{fixed_high}
 use Rattle.std.proofs.Math.IntN.{+ℤ_idr}
 
@@ -40,17 +39,7 @@ near_wider n k z l h = record { above = omega (arith, ints, h.above); below = om
 pub near_add : (n k : ℕ) (a b : ℤ) → Near n a → Near k b → Near (n + k) (a +ℤ b)
 near_add n k a b h j = record { above = omega (arith, ints, h.above, j.above); below = omega (arith, ints, h.below, j.below) }
 
--- ---- a member's least
-
-near_term : (m : Member) (v : ℕ) → SFits w16 m.argument → v ≤ 64 → Near 2097152 (term m v)
-near_term m v f h = near_wider (32768 * v) 2097152 (term m v) (omega arith) (near_product m.argument v f)
-
-pub near_low : (s : List ℕ) (m : Member) → SFits w16 m.argument → Near 2097152 (low s m)
-near_low s m f = go (non_neg m.argument)
-  where
-    go : (b : Bool) → Near 2097152 (cond b (term m (least (at s m))) (term m (greatest (at s m))))
-    go true = near_term m (least (at s m)) f (trailing_le 64 (at s m))
-    go false = near_term m (greatest (at s m)) f (omega arith)
+-- ---- a member that is fixed
 
 -- what it adds where it is fixed is its greatest, and 0 where it is not
 pub placed_fixed : (s : List ℕ) (m : Member) → at s m < 2 ^ 64 → fixed (at s m) ≡ true → high s m ≡ placed s m

@@ -7,7 +7,8 @@ use Rattle.sets.specs.Sets.{fixed, least, greatest}
 use Rattle.std.specs.List.{list_all}
 use Rattle.rows.specs.declared.member.Member.{Member}
 use Rattle.rows.specs.Rows.{RowData, KindMeaning, byte}
-use Rattle.narrowing.specs.Shared.{cuts, at, shaped, verdict, declared, settled, open_with}
+use Rattle.narrowing.specs.Shared.{cuts, at, shaped, verdict, declared}
+use Rattle.rows.specs.declared.trace.Trace.TheVariants.{Settled, Open}
 
 -- the bound: four bytes after the count, low byte first, signed
 abbrev pub bound : RowData → ℤ
@@ -53,5 +54,5 @@ linear = record {
   accepts = λ r n. verdict (shaped 0x4C 5 r) (declared n r) (linear_rule r);
   holds = λ r p. int_le (total (λ m. term m (at p m)) r.members) (bound r);
   turn = λ r s. cuts (within r s) r.members s;
-  trace = λ r s. cond (int_le (total (high s) r.members) (bound r)) settled (open_with (unsigned_abs (total (placed s) r.members +ℤ pos 4000000)));
+  trace = λ r s. cond (int_le (total (high s) r.members) (bound r)) Settled (Open (unsigned_abs (total (placed s) r.members +ℤ pos 4000000)));
 }

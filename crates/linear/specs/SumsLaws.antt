@@ -12,7 +12,8 @@ use Rattle.rows.specs.declared.member.Member.{Member}
 use Rattle.sets.specs.Placings.{some_empty, all_fixed, Proper, Within, values}
 use Rattle.std.specs.List.{list_all}
 use Rattle.sets.specs.Sets.{has, fixed, least, greatest}
-use Rattle.narrowing.specs.Shared.{at, cut, cuts, shaped, declared, settled, open_with}
+use Rattle.narrowing.specs.Shared.{at, cut, cuts, shaped, declared}
+use Rattle.rows.specs.declared.trace.Trace.TheVariants.{Settled, Open}
 use Rattle.linear.specs.Sums.{bound, total, term, low, high, within, linear, linear_rule}
 use Rattle.sets.proofs.Membership.{has_least, has_greatest, least_first, greatest_last, fixed_pos, fixed_member}
 use Rattle.narrowing.proofs.Cuts.{Each, all_each, each_map, each_both, Declared, Small, proper_small, fixed_place, cuts_small, cuts_narrower, cuts_within, cuts_more, cuts_nothing}
@@ -223,7 +224,7 @@ abbrev content_of : RowData → List ℕ → ℕ
 content_of r s = unsigned_abs (total (fixed_part s) r.members +ℤ pos 4000000)
 
 projects : (r : RowData) (s t p q : List ℕ) → Fine r s → Twins s t p q
-    → cond (done r s) settled (open_with (content_of r s)) ≡ cond (done r t) settled (open_with (content_of r t))
+    → cond (done r s) Settled (Open (content_of r s)) ≡ cond (done r t) Settled (Open (content_of r t))
     → int_le (total (value_of p) r.members) (bound r) ≡ int_le (total (value_of q) r.members) (bound r)
 projects r s t p q a w e =
     let ms = r.members in
@@ -281,6 +282,6 @@ linear_lawful = record {
   stays = λ r n k a. stays_verdict (shaped 0x4C 5 r) (linear_rule r) r n k a;
   holds_more = λ r p q a. ap (λ (x : ℤ). int_le x (bound r)) (same_total term r.members p q (members r p a));
   turn_more = turn_more;
-  trace_more = λ r s t a. ap₂ (λ (x y : ℤ). cond (int_le x (bound r)) settled (open_with (unsigned_abs (y +ℤ pos 4000000))))
+  trace_more = λ r s t a. ap₂ (λ (x y : ℤ). cond (int_le x (bound r)) Settled (Open (unsigned_abs (y +ℤ pos 4000000))))
       (same_total high_by r.members s t (members r s a)) (same_total (λ m x. cond (fixed x) (term m (least x)) (pos 0)) r.members s t (members r s a));
 }

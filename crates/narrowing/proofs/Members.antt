@@ -8,7 +8,8 @@ use Rattle.rows.specs.declared.member.Member.{Member}
 use Rattle.rows.specs.Traces.{mark_word, content_word}
 use Rattle.sets.specs.Placings.{some_empty, all_fixed, Proper, Within, Narrower}
 use Rattle.sets.specs.Sets.{fixed, least}
-use Rattle.narrowing.specs.Shared.{at, shaped, verdict, declared, settled, open_with}
+use Rattle.narrowing.specs.Shared.{at, shaped, verdict, declared}
+use Rattle.rows.specs.declared.trace.Trace.TheVariants.{Settled, Open}
 use Rattle.sets.proofs.Membership.{fixed_member, has_below}
 use Rattle.narrowing.proofs.Cuts.{Each, all_each, each_all, each_map, Declared, Small, proper_small, nothing_lost}
 
@@ -127,7 +128,7 @@ at_twins s t p q i w l = elim (cases_Bool (fixed (get_or s i 0))) [
 
 -- ---- traces
 
-pub same_mark : (a b : Bool) (c d : ℕ) → cond a settled (open_with c) ≡ cond b settled (open_with d) → a ≡ b
+pub same_mark : (a b : Bool) (c d : ℕ) → cond a Settled (Open c) ≡ cond b Settled (Open d) → a ≡ b
 same_mark true true c d e = refl
 same_mark true false c d e = absurd (apart (ap mark_word e))
   where
@@ -139,7 +140,7 @@ same_mark false true c d e = absurd (apart (ap mark_word e))
     apart e = omega arith
 same_mark false false c d e = refl
 
-pub same_content : (a b : Bool) (c d : ℕ) → cond a settled (open_with c) ≡ cond b settled (open_with d) → a ≡ false → b ≡ false → c ≡ d
+pub same_content : (a b : Bool) (c d : ℕ) → cond a Settled (Open c) ≡ cond b Settled (Open d) → a ≡ false → b ≡ false → c ≡ d
 same_content true b c d e p q = absurd (both_ways true p refl)
 same_content false true c d e p q = absurd (both_ways true q refl)
 same_content false false c d e p q = ap content_word e

@@ -1,11 +1,9 @@
--- What the kinds share: cuts of sets, an accepted row's parts, traces.
+-- What the kinds share: cuts of sets, and an accepted row's parts.
 use Rattle.std.specs.Prelude.{ℕ, Bool, true, cond, not, ◌&&◌, List, [], ◌∷◌, length, Ok, Err, ◌==◌, nat_eq, nat_le, nat_lt, slice_index, slice_set}
 use Rattle.sets.specs.Sets.{sift}
 use Rattle.std.specs.List.{list_all, list_any}
 use Rattle.rows.specs.declared.fault.Fault.TheVariants.{Undeclared, RuleBroken}
 use Rattle.rows.specs.declared.member.Member.{Member}
-use Rattle.rows.specs.declared.trace.Trace.{Trace}
-use Rattle.rows.specs.declared.trace.Trace.TheVariants.{Settled, Open}
 use Rattle.rows.specs.Rows.{RowData, Verdict, count}
 
 -- ---- cuts
@@ -43,11 +41,3 @@ verdict shape declared rule = cond shape (cond declared (cond rule (Ok tt) (Err 
 -- all members' voices are among the first n
 abbrev pub declared : ℕ → RowData → Bool
 declared n r = list_all (λ m. nat_lt m.voice n) r.members
-
--- ---- traces
-
-abbrev pub settled : Trace
-settled = Settled
-
-abbrev pub open_with : ℕ → Trace
-open_with c = Open c
