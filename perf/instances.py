@@ -96,7 +96,7 @@ def queens(size, colours):
 
 
 def mixed(jobs, slots, bound, seed):
-    """All four kinds: jobs in different slots, the cost of a job the entry of its slot, the costs together at most the bound, a second sum over the slots, and clauses."""
+    """All four kinds: jobs in different slots, the cost of a job the entry of its slot, the costs together at most the bound, a second sum over slots, clauses."""
     rnd = random.Random(seed)
     costs = [[2 * slot + rnd.randint(0, 3) for slot in range(slots)] for _ in range(jobs)]
     clauses = []
@@ -112,7 +112,8 @@ def mixed(jobs, slots, bound, seed):
 
 
 def console(seed, slack):
-    """The largest title: 80 voices and 120 rows, 40 of them of 32 members, 8,000 bytes of rows. A placing is drawn first, and each row is one that it keeps, with so much slack in each sum."""
+    """The largest title: 80 voices and 120 rows, 40 of them of 32 members, 8,000 bytes of rows. A placing is drawn first, and each row is one that it keeps, with so much slack in each sum;
+    with a slack far below 0 the sums cannot all be kept."""
     rnd = random.Random(seed)
     table = [rnd.randrange(8) for _ in range(32)]
     lanes = rnd.sample(range(32), 14) + rnd.sample(range(32, 64), 26)
@@ -138,8 +139,8 @@ def console(seed, slack):
 
 
 def ladder(voices, rows, members, kinds='ALCE'):
-    """Pigeons in the first nine voices and one hole too few, and rows beside them that take no values that are needed, so that the tree is the same whatever their number and size: what a node costs by
-    voices, rows and members."""
+    """What a node costs by voices, rows and members: pigeons in the first nine voices and one hole too few, and rows beside them that take out no value that is needed, so that the tree is
+    the same whatever their number and size."""
     rnd = random.Random(voices * 10000 + rows * 100 + members)
     holes, last = 8, range(voices * 2 // 3, voices)
     pigeons, lanes, free = range(holes + 1), range(voices * 2 // 3), range(holes + 1, voices)
