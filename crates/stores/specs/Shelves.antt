@@ -8,10 +8,11 @@ use Rattle.stores.specs.declared.store.Stored.TheVariants.{Kept, Lost}
 abbrev pub room_of : ℕ → ℕ
 room_of words = min words 65536
 
--- a hash of the key's words, in 64 bits, four words at a time
+-- one word more in a hash of 64 bits
 abbrev pub mixed : ℕ → ℕ → ℕ
 mixed h w = ((h + w) * 0x9E3779B97F4A7C15) % 2 ^ 64
 
+-- a hash of the key's words, four at a time
 abbrev pub hash_from : ℕ → List ℕ → ℕ
 hash_from h [] = h
 hash_from h (a ∷ (b ∷ (c ∷ (d ∷ ws)))) = hash_from ((mixed h a + b * 0xC2B2AE3D27D4EB4F + c * 0x165667B19E3779F9 + d * 0xD6E8FEB86659FD93) % 2 ^ 64) ws
@@ -20,7 +21,7 @@ hash_from h (w ∷ ws) = hash_from (mixed h w) ws
 abbrev pub hash_of : List ℕ → ℕ
 hash_of k = hash_from 0 k
 
--- the bucket that a key is in, of 1,024, by the high bits of its hash
+-- of 1,024 buckets the one that a key is in, by the high bits of its hash
 abbrev pub bucket : List ℕ → ℕ
 bucket k = hash_of k / 2 ^ 54
 
@@ -57,6 +58,7 @@ keys_in (suc n) (h ∷ ws) = take (h % 65536) ws ∷ keys_in n (drop (h % 65536)
 abbrev pub shelved : List ℕ → List (List ℕ)
 shelved ws = keys_in (length ws) ws
 
+-- the same, the newest first
 abbrev pub recent : List ℕ → List (List ℕ)
 recent ws = reverse (shelved ws)
 

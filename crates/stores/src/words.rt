@@ -2,14 +2,14 @@
 ghost use Rattle.std.specs.Prelude.{◌≡◌};
 ghost use Rattle.stores.specs.Shelves.{mixed, hash_of};
 
-// One word more.
+// One word more in a hash.
 fn mix(hash: u64, word: u64) -> u64
     ensures { result ≡ mixed hash word }
 {
     hash.wrapping_add(word).wrapping_mul(0x9E3779B97F4A7C15)
 }
 
-// A hash of the words, four at a time: of four multiplications three do not wait for the words before.
+// A hash of the words, four at a time: of their multiplications only the first waits for the words before.
 pub(crate) fn hash_words(words: &[u64]) -> u64
     ensures { result ≡ hash_of words.now }
 {

@@ -47,7 +47,7 @@ impl<'a> Shelf<'a> {
         words > 0 && words < self.words.len().min(MOST_WORDS) - self.used
     }
 
-    // Whether the key is held: a walk along its bucket's chain. A key is compared only where its header has the same length and the same part of the hash.
+    // Whether the key is held: a walk along its bucket's chain. A key is compared only where its header tells the same length and the same high part of the hash.
     fn holds(&self, hash: u64, key: &[u64]) -> bool
         requires { hash ≡ hash_of key.now }
         ensures { result ≡ member key.now (shelved (used_words self.now)) }
