@@ -79,8 +79,8 @@ module _ (s : Behaviour) (m : Meaning) where
 
   -- a history whose calls, played, have these answers and come to this table and these keys
   pub led : (h : List (Call × Answer)) (t : Table) (keys : List (List ℕ)) → list_all formed (calls_of h) ≡ true
-      → replay (calls_of h) ≡ record { calls = h; table = t; view = record { held = keys; space = (replay (calls_of h)).view.space } } → Leads s m h t keys
+      → replay (calls_of h) ≡ record { calls = h; table = t; view = record { held = keys; space = (replay (calls_of h)).view.space; steady = (replay (calls_of h)).view.steady } } → Leads s m h t keys
   led h t keys f e =
-      let v : View = record { held = keys; space = (replay (calls_of h)).view.space } in
+      let v : View = record { held = keys; space = (replay (calls_of h)).view.space; steady = (replay (calls_of h)).view.steady } in
       let x : Real (record { calls = h; table = t; view = v }) = subst Real e (replay_real (calls_of h) f) in
       record { view = v; holds = refl; history = x.0; by = x.1 }

@@ -22,7 +22,7 @@ short n room used h f =
 pushed : (room : ℕ) (used k : List ℕ) → Whole used → length k < 65536
     → left_by (shelf_view used room) k false true ≡ shelf_view (used ++ entry (recent used) k) room
 pushed room used k w h =
-    ap₂ {C = View} (λ (x : List (List ℕ)) (n : ℕ). record { held = x; space = n }) (sym (shelved_push used k w h)) (omega (arith, length-append used (entry (recent used) k)))
+    ap₂ {C = View} (λ (x : List (List ℕ)) (n : ℕ). record { held = x; space = n; steady = true }) (sym (shelved_push used k w h)) (omega (arith, length-append used (entry (recent used) k)))
 
 leaves : (room : ℕ) (used k : List ℕ) → room ≤ 65536 → Whole used → (a b : Bool) → fits (length k) (room - length used - 1) ≡ b
     → left_by (shelf_view used room) k a b ≡ shelf_view (cond a used (cond b (used ++ entry (recent used) k) used)) room

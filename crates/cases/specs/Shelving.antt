@@ -19,7 +19,7 @@ answer_by false false = Lost
 
 abbrev pub left_by : View → List ℕ → Bool → Bool → View
 left_by v k true f = v
-left_by v k false true = record { held = v.held ++ (k ∷ []); space = v.space - (length k + 1) }
+left_by v k false true = record { held = v.held ++ (k ∷ []); space = v.space - (length k + 1); steady = v.steady }
 left_by v k false false = v
 
 pub member_last : (x k : List ℕ) (ks : List (List ℕ)) → member x (ks ++ (k ∷ [])) ≡ (same x k || member x ks)
@@ -34,8 +34,8 @@ member_last x k (y ∷ ks) = ap (λ (b : Bool). same x y || b) (member_last x k 
 pub keeps_by : (v : View) (k : List ℕ) (a b : Bool) → member k v.held ≡ a → fits (length k) v.space ≡ b → Keeps v k (answer_by a b) (left_by v k a b)
 keeps_by v k true b e f = Keeps.again e
 keeps_by v k false true e f =
-    Keeps.joins (left_by v k false true) e f (record { members = λ x. member_last x k v.held; count = length-append v.held (k ∷ []) })
-keeps_by v k false false e f = Keeps.loses v e f (λ x h. or_right (same x k) (member x v.held) h) (λ _. refl)
+    Keeps.joins (left_by v k false true) e f (record { members = λ x. member_last x k v.held; count = length-append v.held (k ∷ []); taken = λ _. refl; as_before = refl })
+keeps_by v k false false e f = Keeps.loses v e f (λ x h. or_right (same x k) (member x v.held) h) (λ _. refl) (λ _. refl) refl
 
 -- A shelf of so many words: a key that is not held takes a word more than its own, behind the others; one that is lost alters nothing.
 abbrev pub shelf : ℕ → Behaviour

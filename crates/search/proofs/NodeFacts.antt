@@ -54,7 +54,7 @@ kept_from v k w (Keeps.again h) f = absurd (both_ways (member k v.held) f h)
 kept_from v k w (Keeps.joins w' h s j) f = (λ x z. sym (j.members x) ∙ z, j.count)
 
 pub lost_from : (v : View) (k : List ℕ) (w : View) → Keeps v k Lost w → From v k w
-lost_from v k w (Keeps.loses w' h s j z) = j
+lost_from v k w (Keeps.loses w' h s j z y e) = j
 
 -- what a node tells of its sets, looked at from the voice c on
 abbrev pub Seen : Meaning → List RowData → View → ℕ → List ℕ → Node → Type 0

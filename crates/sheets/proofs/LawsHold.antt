@@ -1,5 +1,5 @@
 -- The law of sheets, and what a Load comes to after any calls.
-use Rattle.std.proofs.Common.{◌≡◌, ℕ, List, [], ◌∷◌, sym, refl, ap, ◌∙◌, subst, arith}
+use Rattle.std.proofs.Common.{true, ◌≡◌, ℕ, List, [], ◌∷◌, sym, refl, ap, ◌∙◌, subst, arith}
 use Rattle.rows.specs.Rows.{Meaning}
 use Rattle.rows.specs.Laws.{Laws}
 use Rattle.rows.specs.Bytes.{Bytes}
@@ -21,7 +21,7 @@ use Rattle.sheets.proofs.Saved.{saved_loads}
 
 -- a store that holds nothing
 nothing : View
-nothing = record { held = []; space = 0 }
+nothing = record { held = []; space = 0; steady = true }
 
 told_first : (m : Meaning) → Laws m → (bs : List ℕ) → Bytes bs → Told m bs [] nothing (read_sheet m bs)
 unfolding nothing

@@ -152,6 +152,8 @@ joined_by : (ws k : List ℕ) (room : ℕ) → Whole ws → length k < 65536 →
 joined_by ws k room w h = record {
   members = λ x. ap (member x) (shelved_push ws k w h) ∙ member_push x k (shelved ws);
   count = ap length (shelved_push ws k w h) ∙ length-append (shelved ws) (k ∷ []);
+  taken = λ _. omega (arith, length-append ws (entry (recent ws) k));
+  as_before = refl;
 }
 
 -- ---- the chain of a bucket

@@ -1,5 +1,5 @@
 -- The shelf: keys one after the other in lent words, each behind a header word.
-use Rattle.std.specs.Prelude.{◌≡◌, ℕ, zero, suc, ◌+◌, ◌-◌, ◌*◌, ◌/◌, ◌%◌, ◌^◌, ◌<◌, min, cond, nat_eq, List, [], ◌∷◌, ◌++◌, length, take, drop, reverse, slice_index}
+use Rattle.std.specs.Prelude.{◌≡◌, ℕ, zero, suc, ◌+◌, ◌-◌, ◌*◌, ◌/◌, ◌%◌, ◌^◌, ◌<◌, min, true, cond, nat_eq, List, [], ◌∷◌, ◌++◌, length, take, drop, reverse, slice_index}
 use Rattle.stores.specs.Stores.{View, member, fits}
 use Rattle.stores.specs.declared.store.Stored.{Stored}
 use Rattle.stores.specs.declared.store.Stored.TheVariants.{Kept, Lost}
@@ -72,7 +72,7 @@ Leads heads ws = (b : ℕ) → b < 1024 → slice_index heads b ≡ newest b (re
 
 -- a shelf by the words that are used and how many may be
 abbrev pub shelf_view : List ℕ → ℕ → View
-shelf_view used room = record { held = shelved used; space = room - length used - 1 }
+shelf_view used room = record { held = shelved used; space = room - length used - 1; steady = true }
 
 -- what keeping a key answers, and the words used then: a held key moves nothing, one that fits goes behind the others, a lost one alters nothing
 abbrev pub shelf_keep : List ℕ → ℕ → List ℕ → Stored

@@ -10,7 +10,7 @@ pub enum Stored {
 }
 
 pub trait Store {
-    // the keys that it holds, and the words that it has left
+    // the keys that it holds, the words that it has left, and whether it is steady
     ghost view: { Self → View };
 
     // Leaves no keys.
