@@ -10,25 +10,25 @@ use Rattle.cases.proofs.Playing.{led}
 pub searches_stand : SearchesStand
 unfolding ones count_trailing_zeros mask sift cut
 searches_stand = record {
-  three_large = led _ _ _ _ _ refl refl;
-  three_bare = led _ _ _ _ _ refl refl;
-  three_exact = led _ _ _ _ _ refl refl;
-  three_stopped = led _ _ _ _ _ refl refl;
-  three_resumed = led _ _ _ _ _ refl refl;
-  five_large = led _ _ _ _ _ refl refl;
-  five_bare = led _ _ _ _ _ refl refl;
-  five_one_key = led _ _ _ _ _ refl refl;
-  five_no_key = led _ _ _ _ _ refl refl;
-  empty_large = led _ _ _ _ _ refl refl;
-  empty_bare = led _ _ _ _ _ refl refl;
-  empty_read = led _ _ _ _ _ refl refl;
-  two_large = led _ _ _ _ _ refl refl;
-  two_bare = led _ _ _ _ _ refl refl;
-  two_reads = led _ _ _ _ _ refl refl;
-  two_declined = led _ _ _ _ _ refl refl;
-  two_more = led _ _ _ _ _ refl refl;
-  two_wiped = led _ _ _ _ _ refl refl;
-  five_again = led _ _ _ _ _ refl refl;
+  three_large = led _ _ _ _ _ _ refl refl;
+  three_bare = led _ _ _ _ _ _ refl refl;
+  three_exact = led _ _ _ _ _ _ refl refl;
+  three_stopped = led _ _ _ _ _ _ refl refl;
+  three_resumed = led _ _ _ _ _ _ refl refl;
+  five_large = led _ _ _ _ _ _ refl refl;
+  five_bare = led _ _ _ _ _ _ refl refl;
+  five_one_key = led _ _ _ _ _ _ refl refl;
+  five_no_key = led _ _ _ _ _ _ refl refl;
+  empty_large = led _ _ _ _ _ _ refl refl;
+  empty_bare = led _ _ _ _ _ _ refl refl;
+  empty_read = led _ _ _ _ _ _ refl refl;
+  two_large = led _ _ _ _ _ _ refl refl;
+  two_bare = led _ _ _ _ _ _ refl refl;
+  two_reads = led _ _ _ _ _ _ refl refl;
+  two_declined = led _ _ _ _ _ _ refl refl;
+  two_more = led _ _ _ _ _ _ refl refl;
+  two_wiped = led _ _ _ _ _ _ refl refl;
+  five_again = led _ _ _ _ _ _ refl refl;
 }
 
 pub refusals_stand : RefusalsStand
@@ -94,11 +94,11 @@ refusals_stand = record {
 
 pub limits_reached : LimitsReached
 limits_reached = record {
-  voices_80 = led _ _ _ _ _ refl refl;
-  voices_81 = led _ _ _ _ _ refl refl;
-  rows_120 = led _ _ _ _ _ refl refl;
-  rows_121 = led _ _ _ _ _ refl refl;
-  bytes_8192 = led _ _ _ _ _ refl refl;
+  voices_80 = led _ _ _ _ _ _ refl refl;
+  voices_81 = led _ _ _ _ _ _ refl refl;
+  rows_120 = led _ _ _ _ _ _ refl refl;
+  rows_121 = led _ _ _ _ _ _ refl refl;
+  bytes_8192 = led _ _ _ _ _ _ refl refl;
   bytes_counted = refl;
-  bytes_8198 = led _ _ _ _ _ refl refl;
+  bytes_8198 = led _ _ _ _ _ _ refl refl;
 }

@@ -5,7 +5,6 @@ use Rattle.std.specs.List.{list_all}
 use Rattle.rows.specs.Rows.{Meaning}
 use Rattle.rows.specs.Bytes.{Bytes}
 use Rattle.stores.specs.Stores.{View}
-use Rattle.stores.specs.Bare.{nothing}
 use Rattle.search.specs.Calls.{Table, empty, Call, Answer, Formed, judged, Does}
 use Rattle.search.specs.Calls.Call.{declare, post, solve, read, wipe}
 use Rattle.search.specs.Histories.{History}
@@ -45,20 +44,20 @@ pub record Played : Type 0 where
 abbrev pub noted : Call → List (Call × Answer) → Answer × Table × View → Played
 noted c h r = record { calls = (c, r.0) ∷ h; table = r.1; view = r.2 }
 
-module _ (s : Behaviour) (m : Meaning) where
+module _ (s : Behaviour) (g : View) (m : Meaning) where
   -- one call more
   abbrev pub play : Call → Played → Played
   play c p = noted c p.calls (comes s m p.table p.view c (judged m p.table c))
 
   abbrev pub replay : List Call → Played
-  replay [] = record { calls = []; table = empty; view = s.emptied nothing }
+  replay [] = record { calls = []; table = empty; view = s.emptied g }
   replay (c ∷ cs) = play c (replay cs)
 
   -- ---- what is played is a history
 
   -- there is a history that comes to this, over the store s
   abbrev Real : Played → Type 0
-  Real p = (H : History m p.calls p.table p.view) × HistoryBy s H
+  Real p = (H : History m p.calls p.table p.view) × HistoryBy s g H
 
   does_so : (t : Table) (v : View) (c : Call) (r : Answer × Table × View) → comes s m t v c (judged m t c) ≡ r
       → (D : Does m t v c r.0 r.1 r.2) × DoesBy s D
@@ -73,14 +72,14 @@ module _ (s : Behaviour) (m : Meaning) where
       (History.then p.calls p.table r.1 p.view r.2 c r.0 h.0 f d.0, (h.1, d.1))
 
   replay_real : (cs : List Call) → list_all formed cs ≡ true → Real (replay cs)
-  replay_real [] f = (History.made (s.emptied nothing) (s.empties nothing), (nothing, refl))
+  replay_real [] f = (History.made (s.emptied g) (s.empties g).empty, refl)
   replay_real (c ∷ cs) f =
       let fs = and_parts (formed c) (list_all formed cs) f in play_real c (replay cs) (formed_so c fs.0) (replay_real cs fs.1)
 
   -- a history whose calls, played, have these answers and come to this table and these keys
   pub led : (h : List (Call × Answer)) (t : Table) (keys : List (List ℕ)) → list_all formed (calls_of h) ≡ true
-      → replay (calls_of h) ≡ record { calls = h; table = t; view = record { held = keys; space = (replay (calls_of h)).view.space; steady = (replay (calls_of h)).view.steady } } → Leads s m h t keys
+      → replay (calls_of h) ≡ record { calls = h; table = t; view = record { held = keys; space = (replay (calls_of h)).view.space; room = (replay (calls_of h)).view.room; steady = (replay (calls_of h)).view.steady } } → Leads s g m h t keys
   led h t keys f e =
-      let v : View = record { held = keys; space = (replay (calls_of h)).view.space; steady = (replay (calls_of h)).view.steady } in
+      let v : View = record { held = keys; space = (replay (calls_of h)).view.space; room = (replay (calls_of h)).view.room; steady = (replay (calls_of h)).view.steady } in
       let x : Real (record { calls = h; table = t; view = v }) = subst Real e (replay_real (calls_of h) f) in
       record { view = v; holds = refl; history = x.0; by = x.1 }

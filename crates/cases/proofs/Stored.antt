@@ -1,5 +1,5 @@
 -- The two stores behave as the cases take it.
-use Rattle.std.proofs.Common.{◌≡◌, ℕ, ◌-◌, ◌<◌, ◌≤◌, Bool, true, false, cond, ltb, leb, List, ◌++◌, length, sym, refl, ap, ap₂, inr, arith}
+use Rattle.std.proofs.Common.{◌≡◌, ℕ, ◌-◌, ◌<◌, ◌≤◌, Bool, true, false, cond, ltb, leb, List, [], ◌++◌, length, sym, refl, ap, ap₂, inr, arith}
 use Rattle.std.proofs.lemmas.List.{length-append}
 use Rattle.std.proofs.lemmas.Bool.{and_parts, ltb-true, leb-true}
 use Rattle.stores.specs.Stores.{View, member, fits}
@@ -22,7 +22,7 @@ short n room used h f =
 pushed : (room : ℕ) (used k : List ℕ) → Whole used → length k < 65536
     → left_by (shelf_view used room) k false true ≡ shelf_view (used ++ entry (recent used) k) room
 pushed room used k w h =
-    ap₂ {C = View} (λ (x : List (List ℕ)) (n : ℕ). record { held = x; space = n; steady = true }) (sym (shelved_push used k w h)) (omega (arith, length-append used (entry (recent used) k)))
+    ap₂ {C = View} (λ (x : List (List ℕ)) (n : ℕ). record { held = x; space = n; room = room - 1; steady = true }) (sym (shelved_push used k w h)) (omega (arith, length-append used (entry (recent used) k)))
 
 leaves : (room : ℕ) (used k : List ℕ) → room ≤ 65536 → Whole used → (a b : Bool) → fits (length k) (room - length used - 1) ≡ b
     → left_by (shelf_view used room) k a b ≡ shelf_view (cond a used (cond b (used ++ entry (recent used) k) used)) room
@@ -35,10 +35,10 @@ no_room n = fits_not n 0 0 (inr (omega arith))
 
 pub stores_behave : StoresBehave
 stores_behave = record {
-  shelf_empties = λ room v. refl;
+  shelf_empties = λ room used. ap (λ (n : ℕ). record { held = []; space = n; room = room - 1; steady = true }) (omega arith);
   shelf_answers = λ room used k. answers (member k (shelved used)) (fits (length k) (room - length used - 1));
   shelf_leaves = λ room used k h w. leaves room used k h w (member k (shelved used)) (fits (length k) (room - length used - 1)) refl;
-  bare_empties = λ v. refl;
+  bare_empties = refl;
   bare_answers = λ k. ap (answer_by false) (no_room (length k));
   bare_leaves = λ k. ap (left_by nothing k false) (no_room (length k));
 }

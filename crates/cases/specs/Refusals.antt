@@ -9,6 +9,7 @@ use Rattle.search.specs.Calls.Call.{declare, post, solve, read, wipe}
 use Rattle.search.specs.Calls.Answer.{done, refused}
 use Rattle.search.specs.Calls.Judgement.{passes, declined}
 use Rattle.cases.specs.Leading.{Leads}
+use Rattle.cases.specs.Shelving.{shelf}
 use Rattle.cases.specs.Tables.{differing, large, first_differ, table}
 
 -- ---- tables
@@ -137,10 +138,10 @@ pub record RefusalsStand : Type 0 where
 
 -- The limits can be reached, and not passed.
 pub record LimitsReached : Type 0 where
-  pub voices_80 : Leads large differing (declares 80) (voices 80) []
-  pub voices_81 : Leads large differing ((declare 6, refused 11) ∷ declares 80) (voices 80) []
-  pub rows_120 : Leads large differing (posts 120 1 ++ declares 1) (short_rows 120) []
-  pub rows_121 : Leads large differing ((post (first_differ 1), refused 12) ∷ posts 120 1 ++ declares 1) (short_rows 120) []
-  pub bytes_8192 : Leads large differing full_history full_table []
+  pub voices_80 : Leads shelf large differing (declares 80) (voices 80) []
+  pub voices_81 : Leads shelf large differing ((declare 6, refused 11) ∷ declares 80) (voices 80) []
+  pub rows_120 : Leads shelf large differing (posts 120 1 ++ declares 1) (short_rows 120) []
+  pub rows_121 : Leads shelf large differing ((post (first_differ 1), refused 12) ∷ posts 120 1 ++ declares 1) (short_rows 120) []
+  pub bytes_8192 : Leads shelf large differing full_history full_table []
   pub bytes_counted : total_bytes full_table.rows ≡ 8192
-  pub bytes_8198 : Leads large differing ((post (first_differ 1), refused 12) ∷ full_history) full_table []
+  pub bytes_8198 : Leads shelf large differing ((post (first_differ 1), refused 12) ∷ full_history) full_table []

@@ -19,7 +19,7 @@ answer_by false false = Lost
 
 abbrev pub left_by : View → List ℕ → Bool → Bool → View
 left_by v k true f = v
-left_by v k false true = record { held = v.held ++ (k ∷ []); space = v.space - (length k + 1); steady = v.steady }
+left_by v k false true = record { held = v.held ++ (k ∷ []); space = v.space - (length k + 1); room = v.room; steady = v.steady }
 left_by v k false false = v
 
 pub member_last : (x k : List ℕ) (ks : List (List ℕ)) → member x (ks ++ (k ∷ [])) ≡ (same x k || member x ks)
@@ -34,25 +34,29 @@ member_last x k (y ∷ ks) = ap (λ (b : Bool). same x y || b) (member_last x k 
 pub keeps_by : (v : View) (k : List ℕ) (a b : Bool) → member k v.held ≡ a → fits (length k) v.space ≡ b → Keeps v k (answer_by a b) (left_by v k a b)
 keeps_by v k true b e f = Keeps.again e
 keeps_by v k false true e f =
-    Keeps.joins (left_by v k false true) e f (record { members = λ x. member_last x k v.held; count = length-append v.held (k ∷ []); taken = λ _. refl; as_before = refl })
-keeps_by v k false false e f = Keeps.loses v e f (λ x h. or_right (same x k) (member x v.held) h) (λ _. refl) (λ _. refl) refl
+    Keeps.joins (left_by v k false true) e f (record { members = λ x. member_last x k v.held; count = length-append v.held (k ∷ []); taken = λ _. refl; later = record { room = refl; steady = refl } })
+keeps_by v k false false e f = Keeps.loses v e f (λ x h. or_right (same x k) (member x v.held) h) (λ _. refl) (λ _. refl) (record { room = refl; steady = refl })
 
--- A shelf of so many words: a key that is not held takes a word more than its own, behind the others; one that is lost alters nothing.
-abbrev pub shelf : ℕ → Behaviour
-shelf words = record {
-  emptied = λ v. shelf_view [] words;
+-- A shelf: emptied, it has all its room; a key that is not held takes a word more than its own, behind the others; one that is lost alters nothing.
+abbrev pub shelf : Behaviour
+shelf = record {
+  emptied = λ v. record { held = []; space = v.room; room = v.room; steady = v.steady };
   answer = λ v k. answer_by (member k v.held) (fits (length k) v.space);
   after = λ v k. left_by v k (member k v.held) (fits (length k) v.space);
-  empties = λ v. refl;
+  empties = λ v. record { empty = record { none = refl; whole = λ _. refl }; later = record { room = refl; steady = refl } };
   keeps = λ v k. keeps_by v k (member k v.held) (fits (length k) v.space) refl refl;
 }
 
+-- a shelf over so many lent words, with no keys
+abbrev pub lent : ℕ → View
+lent words = shelf_view [] words
+
 -- That is how the stores behave: a shelf that may use so many words, by those that it uses, and the bare store, as a shelf of no words.
 pub record StoresBehave : Type 0 where
-  pub shelf_empties : (room : ℕ) (v : View) → (shelf room).emptied v ≡ shelf_view [] room
-  pub shelf_answers : (room : ℕ) (used k : List ℕ) → (shelf room).answer (shelf_view used room) k ≡ shelf_keep used room k
+  pub shelf_empties : (room : ℕ) (used : List ℕ) → shelf.emptied (shelf_view used room) ≡ lent room
+  pub shelf_answers : (room : ℕ) (used k : List ℕ) → shelf.answer (shelf_view used room) k ≡ shelf_keep used room k
   pub shelf_leaves : (room : ℕ) (used k : List ℕ) → room ≤ 65536 → Whole used
-      → (shelf room).after (shelf_view used room) k ≡ shelf_view (shelf_after used room k) room
-  pub bare_empties : (v : View) → (shelf 0).emptied v ≡ nothing
-  pub bare_answers : (k : List ℕ) → (shelf 0).answer nothing k ≡ Lost
-  pub bare_leaves : (k : List ℕ) → (shelf 0).after nothing k ≡ nothing
+      → shelf.after (shelf_view used room) k ≡ shelf_view (shelf_after used room k) room
+  pub bare_empties : shelf.emptied nothing ≡ nothing
+  pub bare_answers : (k : List ℕ) → shelf.answer nothing k ≡ Lost
+  pub bare_leaves : (k : List ℕ) → shelf.after nothing k ≡ nothing

@@ -5,19 +5,20 @@ use Rattle.rows.specs.Rows.{RowData, Meaning, alone}
 use Rattle.all_different.specs.Differing.{all_different}
 use Rattle.search.specs.Search.{Place}
 use Rattle.search.specs.Calls.{Table}
-use Rattle.search.specs.Behaviours.{Behaviour}
-use Rattle.cases.specs.Shelving.{shelf}
+use Rattle.stores.specs.Stores.{View}
+use Rattle.stores.specs.Bare.{nothing}
+use Rattle.cases.specs.Shelving.{lent}
 
 -- a bank of one kind, A
 abbrev pub differing : Meaning
 differing = alone all_different
 
--- a shelf that loses none of the keys below, and one of no words, which loses every key
-abbrev pub large : Behaviour
-large = shelf 4096
+-- a shelf that loses none of the keys below, and the bare store, which loses every key
+abbrev pub large : View
+large = lent 4096
 
-abbrev pub bare : Behaviour
-bare = shelf 0
+abbrev pub bare : View
+bare = nothing
 
 -- ---- rows
 

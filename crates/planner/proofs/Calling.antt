@@ -6,7 +6,7 @@ use Rattle.sets.specs.Placings.{values}
 use Rattle.rows.specs.Rows.{RowData, Meaning}
 use Rattle.rows.specs.Laws.{Laws}
 use Rattle.rows.specs.Bytes.{decode}
-use Rattle.stores.specs.Stores.{View}
+use Rattle.stores.specs.Stores.{View, IsEmpty, Emptied}
 use Rattle.search.specs.Search.{Level, Place}
 use Rattle.search.specs.Search.Place.{fresh, going, found, none}
 use Rattle.search.specs.Calls.{Table, begun, Call, Answer, Formed, Judgement, judged, is_found, result, says, Does}
@@ -72,26 +72,26 @@ declines_kept m voices rows rows' s v c n a e f g =
     (subst (λ (x : Answer). Done m (table_of voices rows s) v c x (table_of voices rows s) v) (sym f) (declines_by m (table_of voices rows s) v c n g))
 
 pub declares_by : (m : Meaning) (voices voices' : List ℕ) (rows : List RowData) (s s' : Search) (v w : View) (x n : ℕ) → voices' ≡ voices ++ (x ∷ []) → Begun n s'
-    → ((j : ℕ) → judged m (table_of voices rows s j) (declare x) ≡ Judgement.passes) → w.held ≡ []
+    → ((j : ℕ) → judged m (table_of voices rows s j) (declare x) ≡ Judgement.passes) → Emptied v w
     → Done m (table_of voices rows s) v (declare x) Answer.done (table_of voices' rows s') w
 declares_by m voices voices' rows s s' v w x n e b f h =
     let to : table_of voices' rows s' 0 ≡ begun (voices ++ (x ∷ [])) rows = begun_table voices' rows n s' b ∙ ap (λ (y : List ℕ). begun y rows) e in
     record { lost = λ j. 0; does = λ j. subst (λ (y : Table). Does m (table_of voices rows s j) v (declare x) Answer.done y w) (sym to) (Does.declares x w (f j) h) }
 
 pub posts_by : (m : Meaning) (voices : List ℕ) (rows rows' : List RowData) (s s' : Search) (v w : View) (bs : List ℕ) (n : ℕ) → rows' ≡ rows ++ (decode m bs ∷ []) → Begun n s'
-    → ((j : ℕ) → judged m (table_of voices rows s j) (post bs) ≡ Judgement.passes) → w.held ≡ []
+    → ((j : ℕ) → judged m (table_of voices rows s j) (post bs) ≡ Judgement.passes) → Emptied v w
     → Done m (table_of voices rows s) v (post bs) Answer.done (table_of voices rows' s') w
 posts_by m voices rows rows' s s' v w bs n e b f h =
     let to : table_of voices rows' s' 0 ≡ begun voices (rows ++ (decode m bs ∷ [])) = begun_table voices rows' n s' b ∙ ap (λ (y : List RowData). begun voices y) e in
     record { lost = λ j. 0; does = λ j. subst (λ (y : Table). Does m (table_of voices rows s j) v (post bs) Answer.done y w) (sym to) (Does.posts bs w (f j) h) }
 
-pub wipes_by : (m : Meaning) (t : ℕ → Table) (voices : List ℕ) (s : Search) (v w : View) (n : ℕ) → voices ≡ [] → Begun n s → w.held ≡ []
+pub wipes_by : (m : Meaning) (t : ℕ → Table) (voices : List ℕ) (s : Search) (v w : View) (n : ℕ) → voices ≡ [] → Begun n s → Emptied v w
     → Done m t v wipe Answer.done (table_of voices [] s) w
 wipes_by m t voices s v w n e b h =
     let to : table_of voices [] s 0 ≡ begun [] [] = begun_table voices [] n s b ∙ ap (λ (y : List ℕ). begun y []) e in
     record { lost = λ j. 0; does = λ j. subst (λ (y : Table). Does m (t j) v wipe Answer.done y w) (sym to) (Does.wipes w h) }
 
-pub made_by : (m : Meaning) (voices : List ℕ) (s : Search) (w : View) (n : ℕ) → voices ≡ [] → Begun n s → w.held ≡ [] → History m [] (table_of voices [] s 0) w
+pub made_by : (m : Meaning) (voices : List ℕ) (s : Search) (w : View) (n : ℕ) → voices ≡ [] → Begun n s → IsEmpty w → History m [] (table_of voices [] s 0) w
 made_by m voices s w n e b h =
     let to : table_of voices [] s 0 ≡ begun [] [] = begun_table voices [] n s b ∙ ap (λ (y : List ℕ). begun y []) e in
     subst (λ (y : Table). History m [] y w) (sym to) (History.made w h)

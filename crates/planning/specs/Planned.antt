@@ -1,7 +1,7 @@
 -- The whole job of the program: a sheet is loaded into a new table, solved by one Solve, and reported.
 use Rattle.std.specs.Prelude.{◌≡◌, ℕ, List, [], ◌∷◌}
 use Rattle.rows.specs.Rows.{Meaning}
-use Rattle.stores.specs.Stores.{View}
+use Rattle.stores.specs.Stores.{View, Later}
 use Rattle.search.specs.Limits.{most_budget}
 use Rattle.search.specs.Calls.{Table, Call, Answer, says}
 use Rattle.search.specs.Calls.Call.{solve}
@@ -28,12 +28,13 @@ abbrev pub Right : Meaning → Outcome → Table → Type 0
 Right m (accepted voices rows) t = Says m voices rows (says t.place)
 Right m (refused number place layer) t = Unit {0}
 
--- the text is what the job writes of this sheet
-pub record Planned (m : Meaning) (sheet text : List ℕ) : Type 0 where
+-- the text is what the job writes of this sheet, over the store that was given
+pub record Planned (m : Meaning) (given : View) (sheet text : List ℕ) : Type 0 where
   -- the table and the store that the calls led to, and what stands after every history
   pub table : Table
   pub view : View
   pub history : History m (job_calls (read_sheet m sheet) table) table view
+  pub over : Later given view
   pub stands : Stands m table view
   -- the report of that table, or of the fault
   pub reported : text ≡ report_text (outcome_answer (read_sheet m sheet)) table

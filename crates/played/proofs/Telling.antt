@@ -4,13 +4,14 @@ use Rattle.std.proofs.lemmas.Bool.{cases_lt}
 use Rattle.std.proofs.lemmas.List.{take_more, take_all, length-map, length-take-le, get_or_past, map_more, map_push}
 use Rattle.rows.specs.Rows.{Meaning}
 use Rattle.rows.specs.Laws.{Laws}
-use Rattle.stores.specs.Stores.{View}
+use Rattle.stores.specs.Stores.{View, Later}
 use Rattle.search.specs.Calls.{Table, Call, Answer}
 use Rattle.search.specs.Calls.Call.{solve, wipe}
 use Rattle.search.specs.Calls.Answer.{done}
 use Rattle.search.specs.Histories.{History}
 use Rattle.search.proofs.HistoryFacts.{search_stands}
 use Rattle.search.proofs.AnswerFacts.{results_agree}
+use Rattle.search.proofs.LaterFacts.{later_back, does_later}
 use Rattle.planner.specs.Lasting.{Tells}
 use Rattle.planner.proofs.Calling.{lasts_by}
 use Rattle.played.specs.declared.call.Call.{Call as CodeCall}
@@ -49,52 +50,51 @@ first_next calls answers n e h =
 
 -- ---- the first calls of a history
 
--- some table and store that a history led to
-abbrev Reached : Meaning → List (Call × Answer) → Type 0
-Reached m h = (t : Table) × (v : View) × History m h t v
+-- some table and store that a history led to, over the store g
+abbrev Reached : Meaning → View → List (Call × Answer) → Type 0
+Reached m g h = (t : Table) × (v : View) × History m h t v × Later g v
 
-without : {m : Meaning} {c : Call} {a : Answer} {h : List (Call × Answer)} {t : Table} {v : View} → History m ((c, a) ∷ h) t v → Reached m h
-without (History.then h t u v w c a H o d) = (t, v, H)
+without : {m : Meaning} {c : Call} {a : Answer} {h : List (Call × Answer)} {t : Table} {v : View} (g : View) → Later g v → History m ((c, a) ∷ h) t v → Reached m g h
+without g l (History.then h t u v w c a H o d) = (t, v, H, later_back l (does_later d))
 
-peeled : (m : Meaning) (h : List (Call × Answer)) (calls : List Call) (answers : List Answer) → Reached m (told_on h calls answers) → Reached m h
-peeled m h [] answers r = r
-peeled m h (c ∷ calls) [] r = r
-peeled m h (c ∷ calls) (a ∷ answers) r = let (t, v, H) = peeled m ((c, a) ∷ h) calls answers r in without H
+peeled : (m : Meaning) (g : View) (h : List (Call × Answer)) (calls : List Call) (answers : List Answer) → Reached m g (told_on h calls answers) → Reached m g h
+peeled m g h [] answers r = r
+peeled m g h (c ∷ calls) [] r = r
+peeled m g h (c ∷ calls) (a ∷ answers) r = let (t, v, H, l) = peeled m g ((c, a) ∷ h) calls answers r in without g l H
 
-reached_at : (m : Meaning) (n : ℕ) (h : List (Call × Answer)) (calls : List Call) (answers : List Answer) → Reached m (told_on h calls answers)
-    → Reached m (told_on h (take n calls) (take n answers))
-reached_at m zero h calls answers r = peeled m h calls answers r
-reached_at m (suc n) h [] answers r = r
-reached_at m (suc n) h (c ∷ calls) [] r = r
-reached_at m (suc n) h (c ∷ calls) (a ∷ answers) r = reached_at m n ((c, a) ∷ h) calls answers r
+reached_at : (m : Meaning) (g : View) (n : ℕ) (h : List (Call × Answer)) (calls : List Call) (answers : List Answer) → Reached m g (told_on h calls answers)
+    → Reached m g (told_on h (take n calls) (take n answers))
+reached_at m g zero h calls answers r = peeled m g h calls answers r
+reached_at m g (suc n) h [] answers r = r
+reached_at m g (suc n) h (c ∷ calls) [] r = r
+reached_at m g (suc n) h (c ∷ calls) (a ∷ answers) r = reached_at m g n ((c, a) ∷ h) calls answers r
 
 -- ---- what holds of them
 
-leads_by : (m : Meaning) → Laws m → (h : List (Call × Answer)) → Reached m h → Leads m h
-leads_by m L h (t, v, H) = record { table = t; view = v; history = H; stands = search_stands m L h t v H }
+leads_by : (m : Meaning) → Laws m → (g : View) (h : List (Call × Answer)) → Reached m g h → Leads m g h
+leads_by m L g h (t, v, H, l) = record { table = t; view = v; history = H; over = l; stands = search_stands m L h t v H }
 
 tells_by : {m : Meaning} {c : Call} {a : Answer} {h : List (Call × Answer)} {t : Table} {v : View} → Laws m → History m ((c, a) ∷ h) t v → Tells m h c a
 tells_by {m} L (History.then h t u v w c a H o d) =
     (lasts_by m L (λ j. t) v c a (λ j. u) w o (record { lost = λ j. 0; does = λ j. d })).tells h 0 H
 
-at_next : {m : Meaning} (calls : List Call) (answers : List Answer) (n : ℕ) → length answers ≡ length calls → n < length calls → Reached m (told calls answers)
-    → Reached m ((get_or calls n wipe, get_or answers n done) ∷ first_told n calls answers)
-at_next {m} calls answers n e h r = subst (Reached m) (first_next calls answers n e h) (reached_at m (n + 1) [] calls answers r)
+at_next : {m : Meaning} {g : View} (calls : List Call) (answers : List Answer) (n : ℕ) → length answers ≡ length calls → n < length calls → Reached m g (told calls answers)
+    → Reached m g ((get_or calls n wipe, get_or answers n done) ∷ first_told n calls answers)
+at_next {m} {g} calls answers n e h r = subst (Reached m g) (first_next calls answers n e h) (reached_at m g (n + 1) [] calls answers r)
 
-played_by : (m : Meaning) → Laws m → (calls : List Call) (answers : List Answer) (t : Table) (v : View) → length answers ≡ length calls → History m (told calls answers) t v
-    → Played m calls answers
-played_by m L calls answers t v e H = record {
+played_by : (m : Meaning) → Laws m → (g : View) (calls : List Call) (answers : List Answer) → length answers ≡ length calls → Reached m g (told calls answers) → Played m g calls answers
+played_by m L g calls answers e r = record {
   answered = e;
-  leads = leads_by m L (told calls answers) (t, v, H);
-  each_leads = λ n. leads_by m L (first_told n calls answers) (reached_at m n [] calls answers (t, v, H));
-  tells = λ n h. let (x, y, G) = at_next calls answers n e h (t, v, H) in tells_by L G;
+  leads = leads_by m L g (told calls answers) r;
+  each_leads = λ n. leads_by m L g (first_told n calls answers) (reached_at m g n [] calls answers r);
+  tells = λ n h. let (x, y, G, l) = at_next {m = m} {g = g} calls answers n e h r in tells_by L G;
 }
 
-pub all_played : (m : Meaning) → Laws m → (xs : List CodeCall) (ys : List CodeAnswer) (i : ℕ) (t : Table) (v : View) → length xs ≤ i → i ≤ length xs → length ys ≡ i
-    → History m (told (calls_of (take i xs)) (answers_of ys)) t v → Played m (calls_of xs) (answers_of ys)
-all_played m L xs ys i t v h k e H =
-    played_by m L (calls_of xs) (answers_of ys) t v (length-map ys answer_of ∙ omega (arith, e, h, k) ∙ sym (length-map xs call_of))
-    (subst (λ (z : List CodeCall). History m (told (calls_of z) (answers_of ys)) t v) (take_all i xs h) H)
+pub all_played : (m : Meaning) → Laws m → (g : View) (xs : List CodeCall) (ys : List CodeAnswer) (i : ℕ) (t : Table) (v : View) → length xs ≤ i → i ≤ length xs → length ys ≡ i
+    → Later g v → History m (told (calls_of (take i xs)) (answers_of ys)) t v → Played m g (calls_of xs) (answers_of ys)
+all_played m L g xs ys i t v h k e l H =
+    played_by m L g (calls_of xs) (answers_of ys) (length-map ys answer_of ∙ omega (arith, e, h, k) ∙ sym (length-map xs call_of))
+    (t, v, subst (λ (z : List CodeCall). History m (told (calls_of z) (answers_of ys)) t v) (take_all i xs h) H, l)
 
 -- ---- two histories
 
@@ -106,15 +106,15 @@ solve_inside calls n b e =
     ]
 
 -- up to a Solve
-up_to : {m : Meaning} (calls : List Call) (answers : List Answer) (n b : ℕ) → Played m calls answers → get_or calls n wipe ≡ solve b
-    → Reached m ((solve b, get_or answers n done) ∷ first_told n calls answers)
-up_to {m} calls answers n b p e =
-    subst (λ (c : Call). Reached m ((c, get_or answers n done) ∷ first_told n calls answers)) e
-    (at_next calls answers n p.answered (solve_inside calls n b e) (p.leads.table, p.leads.view, p.leads.history))
+up_to : {m : Meaning} {g : View} (calls : List Call) (answers : List Answer) (n b : ℕ) → Played m g calls answers → get_or calls n wipe ≡ solve b
+    → Reached m g ((solve b, get_or answers n done) ∷ first_told n calls answers)
+up_to {m} {g} calls answers n b p e =
+    subst (λ (c : Call). Reached m g ((c, get_or answers n done) ∷ first_told n calls answers)) e
+    (at_next calls answers n p.answered (solve_inside calls n b e) (p.leads.table, p.leads.view, p.leads.history, p.leads.over))
 
-pub agreed_by : (m m' : Meaning) → Laws m → Laws m' → (calls calls' : List Call) (answers answers' : List Answer) → Played m calls answers → Played m' calls' answers'
+pub agreed_by : (m m' : Meaning) → Laws m → Laws m' → (calls calls' : List Call) (answers answers' : List Answer) (g g' : View) → Played m g calls answers → Played m' g' calls' answers'
     → Agreed m calls answers m' calls' answers'
-agreed_by m m' L L' calls calls' answers answers' p p' n n' b b' e e' f f' =
-    let (t, v, H) = up_to calls answers n b p e in
-    let (t', v', H') = up_to calls' answers' n' b' p' e' in
+agreed_by m m' L L' calls calls' answers answers' g g' p p' n n' b b' e e' f f' =
+    let (t, v, H, l) = up_to {m = m} {g = g} calls answers n b p e in
+    let (t', v', H', l') = up_to {m = m'} {g = g'} calls' answers' n' b' p' e' in
     results_agree m m' L L' [] [] (first_told n calls answers) (first_told n' calls' answers') b b' (get_or answers n done) (get_or answers' n' done) t t' v v' H H' f f'

@@ -93,20 +93,20 @@ module _ (m : Meaning) (L : Laws m) where
     proper = proper_push t.voices s (declared_set m t s j) o f.proper;
     okay = subst (AllAccepted m t.rows) (sym (length_push t.voices s)) (okay_more m L t.rows (length t.voices) f.okay);
     stage = refl;
-    store = empty_store m t.rows (length (t.voices ++ (s ∷ []))) w e;
+    store = empty_store m t.rows (length (t.voices ++ (s ∷ []))) w e.empty.none;
   }
   does {t} (Does.posts bs w j e) o f = record {
     proper = f.proper;
     okay = okay_push m t.rows (decode m bs) (length t.voices) (posted_row m t bs j) f.okay;
     stage = refl;
-    store = empty_store m (t.rows ++ (decode m bs ∷ [])) (length t.voices) w e;
+    store = empty_store m (t.rows ++ (decode m bs ∷ [])) (length t.voices) w e.empty.none;
   }
-  does (Does.wipes w e) o f = made w e
+  does (Does.wipes w e) o f = made w e.empty.none
   does (Does.solves b u w j S) o f = goes S.goes f
   does (Does.reads buffer p j e) o f = f
 
   pub fit : {h : List (Call × Answer)} {t : Table} {v : View} → History m h t v → Fit m t v
-  fit (History.made v e) = made v e
+  fit (History.made v e) = made v e.none
   fit (History.then h t u v w c a H o d) = does d o (fit H)
 
   bounded : (rows : List RowData) (voices : List ℕ) (v : View) (o e : ℕ) (p : Place) → Stage m rows voices p v o e → o ≤ 1 + 64 * (e + length voices)

@@ -12,5 +12,6 @@ pub mod AnswerFacts
 pub mod RefusalFacts
 pub mod OutcomeFacts
 pub mod StoreFacts
+pub mod LaterFacts
 pub mod LimitFacts
 pub mod NeverTwice

@@ -142,11 +142,11 @@ module _ (m : Meaning) where
   does_agree t v v' s (Does.declines c n j) (Does.solves b' u' w' j' S') z z' = absurd (not_both j j')
   does_agree t v v' s (Does.declines c n j) (Does.reads b' p' j' e') z z' = absurd (not_both j j')
   does_agree t v v' s (Does.declares x w j e) (Does.declines c n j') z z' = absurd (not_both j' j)
-  does_agree t v v' s (Does.declares x w j e) (Does.declares x' w' j' e') z z' = (refl, refl, none_held w w' e e')
+  does_agree t v v' s (Does.declares x w j e) (Does.declares x' w' j' e') z z' = (refl, refl, none_held w w' e.empty.none e'.empty.none)
   does_agree t v v' s (Does.posts x w j e) (Does.declines c n j') z z' = absurd (not_both j' j)
-  does_agree t v v' s (Does.posts x w j e) (Does.posts x' w' j' e') z z' = (refl, refl, none_held w w' e e')
+  does_agree t v v' s (Does.posts x w j e) (Does.posts x' w' j' e') z z' = (refl, refl, none_held w w' e.empty.none e'.empty.none)
   does_agree t v v' s (Does.wipes w e) (Does.declines c n j') z z' = absurd (not_both j' refl)
-  does_agree t v v' s (Does.wipes w e) (Does.wipes w' e') z z' = (refl, refl, none_held w w' e e')
+  does_agree t v v' s (Does.wipes w e) (Does.wipes w' e') z z' = (refl, refl, none_held w w' e.empty.none e'.empty.none)
   does_agree t v v' s (Does.solves b u w j S) (Does.declines c n j') z z' = absurd (not_both j' j)
   does_agree t v v' s (Does.solves b u w j S) (Does.solves b' u' w' j' S') z z' =
       let r = goes_agree S.goes S'.goes b refl s S.inside S'.inside S.ends S'.ends z z' in

@@ -1,8 +1,8 @@
 -- How one store behaves, what a call comes to over it, and the keys that a search hands to it.
-use Rattle.std.specs.Prelude.{◌≡◌, ℕ, false, List, []}
+use Rattle.std.specs.Prelude.{◌≡◌, ℕ, false, List}
 use Rattle.rows.specs.Rows.{RowData, Meaning}
 use Rattle.stores.specs.Keys.{key}
-use Rattle.stores.specs.Stores.{member, View, Keeps}
+use Rattle.stores.specs.Stores.{member, View, Emptied, Keeps}
 use Rattle.stores.specs.declared.store.Stored.{Stored}
 use Rattle.stores.specs.declared.store.Stored.TheVariants.{Kept, Lost}
 use Rattle.search.specs.Search.{Level, Place, BacksUp, Opens, Steps}
@@ -13,7 +13,7 @@ pub record Behaviour : Type 0 where
   pub emptied : View → View
   pub answer : View → List ℕ → Stored
   pub after : View → List ℕ → View
-  pub empties : (v : View) → (emptied v).held ≡ []
+  pub empties : (v : View) → Emptied v (emptied v)
   pub keeps : (v : View) (k : List ℕ) → Keeps v k (answer v k) (after v k)
 
 -- ---- each Empty and each Keep of what a call does is that store's

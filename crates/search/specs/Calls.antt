@@ -3,7 +3,7 @@ use Rattle.std.specs.Prelude.{◌≡◌, ℕ, zero, suc, ◌+◌, ◌^◌, ◌<�
 use Rattle.rows.specs.Numbers.{number_of}
 use Rattle.rows.specs.Rows.{RowData, Meaning, Verdict}
 use Rattle.rows.specs.Bytes.{Bytes, head_length, lettered, counted, long_enough, marked, decode, total_bytes}
-use Rattle.stores.specs.Stores.{View}
+use Rattle.stores.specs.Stores.{View, Emptied}
 use Rattle.search.specs.Limits.{most_voices, most_rows, most_bytes, most_budget, most_opened}
 use Rattle.search.specs.Search.{Place, Steps}
 
@@ -146,9 +146,9 @@ pub data Does (m : Meaning) (t : Table) (v : View) : Call → Answer → Table �
   -- a declined call leaves both as they are
   declines : (c : Call) (n : ℕ) → judged m t c ≡ declined n → Does m t v c (refused n) t v
   -- Declare, Post and Wipe empty the store, and the search begins again
-  declares : (s : ℕ) (w : View) → judged m t (declare s) ≡ passes → w.held ≡ [] → Does m t v (declare s) done (begun (t.voices ++ (s ∷ [])) t.rows) w
-  posts : (bs : List ℕ) (w : View) → judged m t (post bs) ≡ passes → w.held ≡ [] → Does m t v (post bs) done (begun t.voices (t.rows ++ (decode m bs ∷ []))) w
-  wipes : (w : View) → w.held ≡ [] → Does m t v wipe done empty w
+  declares : (s : ℕ) (w : View) → judged m t (declare s) ≡ passes → Emptied v w → Does m t v (declare s) done (begun (t.voices ++ (s ∷ [])) t.rows) w
+  posts : (bs : List ℕ) (w : View) → judged m t (post bs) ≡ passes → Emptied v w → Does m t v (post bs) done (begun t.voices (t.rows ++ (decode m bs ∷ []))) w
+  wipes : (w : View) → Emptied v w → Does m t v wipe done empty w
   -- Solve goes on from where the last one stopped
   solves : (b : ℕ) (u : Table) (w : View) → judged m t (solve b) ≡ passes → Solved m b t v u w → Does m t v (solve b) (says u.place) u w
   -- the values at the front of the buffer, and the bytes beyond as they were

@@ -1,14 +1,14 @@
 -- Histories of calls, and the voices and rows that they have given.
-use Rattle.std.specs.Prelude.{◌≡◌, ℕ, Bool, true, false, cond, List, [], ◌∷◌, ◌++◌}
+use Rattle.std.specs.Prelude.{ℕ, Bool, true, false, cond, List, [], ◌∷◌, ◌++◌}
 use Rattle.rows.specs.Rows.{RowData, Meaning}
 use Rattle.rows.specs.Bytes.{decode}
-use Rattle.stores.specs.Stores.{View}
+use Rattle.stores.specs.Stores.{View, IsEmpty}
 use Rattle.search.specs.Calls.{Table, empty, Call, Answer, Formed, Does}
 use Rattle.search.specs.Calls.Call.{declare, post, solve, read, wipe}
 
 -- What was called and answered, the newest first, since Make gave an empty table over an emptied store; and the table and store that it led to.
 pub data History (m : Meaning) : List (Call × Answer) → Table → View → Type 0 where
-  made : (v : View) → v.held ≡ [] → History m [] empty v
+  made : (v : View) → IsEmpty v → History m [] empty v
   then : (h : List (Call × Answer)) (t u : Table) (v w : View) (c : Call) (a : Answer) → History m h t v → Formed c → Does m t v c a u w
       → History m ((c, a) ∷ h) u w
 

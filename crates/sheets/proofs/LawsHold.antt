@@ -3,7 +3,7 @@ use Rattle.std.proofs.Common.{true, ◌≡◌, ℕ, List, [], ◌∷◌, sym, re
 use Rattle.rows.specs.Rows.{Meaning}
 use Rattle.rows.specs.Laws.{Laws}
 use Rattle.rows.specs.Bytes.{Bytes}
-use Rattle.stores.specs.Stores.{View}
+use Rattle.stores.specs.Stores.{View, IsEmpty}
 use Rattle.search.specs.Calls.{Table, empty, begun, Call, Answer, Does}
 use Rattle.search.specs.Calls.Call.{wipe}
 use Rattle.search.specs.Calls.Answer.{done}
@@ -21,17 +21,21 @@ use Rattle.sheets.proofs.Saved.{saved_loads}
 
 -- a store that holds nothing
 nothing : View
-nothing = record { held = []; space = 0; steady = true }
+nothing = record { held = []; space = 0; room = 0; steady = true }
+
+holds_nothing : IsEmpty nothing
+unfolding nothing
+holds_nothing = record { none = refl; whole = λ _. refl }
 
 told_first : (m : Meaning) → Laws m → (bs : List ℕ) → Bytes bs → Told m bs [] nothing (read_sheet m bs)
 unfolding nothing
-told_first m L bs b = told m L bs b [] nothing refl (History.made nothing refl)
+told_first m L bs b = told m L bs b [] nothing holds_nothing (History.made nothing holds_nothing)
 
 pub sheets_stand : (m : Meaning) → Laws m → SheetsStand m
 unfolding nothing
 sheets_stand m L = record {
   saved_loads = saved_loads m L;
-  loaded_saves = λ bs b voices rows e. let t = subst (Told m bs [] nothing) e (told_first m L bs b) in (holdable m L bs [] nothing refl t.0, t.1);
+  loaded_saves = λ bs b voices rows e. let t = subst (Told m bs [] nothing) e (told_first m L bs b) in (holdable m L bs [] nothing holds_nothing t.0, t.1);
   first_fault = λ bs b number place layer e. subst (Told m bs [] nothing) e (told_first m L bs b);
 }
 
@@ -42,13 +46,13 @@ told_history : (m : Meaning) (bs : List ℕ) (h : List (Call × Answer)) (w : Vi
 told_history m bs h w (accepted voices rows) t H = t.0
 told_history m bs h w (refused number place layer) t H = H
 
-pub lasts : (m : Meaning) → Laws m → (bs : List ℕ) → Bytes bs → (t : ℕ → Table) (v : View) (u : Table) (w : View) → LoadLeaves (read_sheet m bs) u w → LoadLasts m t v (read_sheet m bs) u w
+pub lasts : (m : Meaning) → Laws m → (bs : List ℕ) → Bytes bs → (t : ℕ → Table) (v : View) (u : Table) (w : View) → LoadLeaves (read_sheet m bs) v u w → LoadLasts m t v (read_sheet m bs) u w
 lasts m L bs b t v u w leaves =
     let o = read_sheet m bs in
     let history : (h : List (Call × Answer)) (j : ℕ) → History m h (t j) v → History m (loaded_after h o) u w =
     λ h j H.
     let wiped : History m ((wipe, done) ∷ h) empty w = History.then h (t j) empty v w wipe done H tt (Does.wipes w leaves.store) in
-    subst (λ (x : Table). History m (loaded_after h o) x w) (sym leaves.table) (told_history m bs h w o (told m L bs b ((wipe, done) ∷ h) w leaves.store wiped) wiped) in
+    subst (λ (x : Table). History m (loaded_after h o) x w) (sym leaves.table) (told_history m bs h w o (told m L bs b ((wipe, done) ∷ h) w leaves.store.empty wiped) wiped) in
     record { history = history; stands = λ h j H. search_stands m L (loaded_after h o) u w (history h j H) }
 
 -- ---- loaded and saved, saved and loaded

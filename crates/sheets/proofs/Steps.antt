@@ -4,7 +4,8 @@ use Rattle.std.proofs.lemmas.List.{length-drop, length-take, drop-drop}
 use Rattle.std.proofs.lemmas.Bool.{and_parts, not-false, ltb-true}
 use Rattle.rows.specs.Rows.{Meaning}
 use Rattle.rows.specs.Bytes.{lettered, decode}
-use Rattle.stores.specs.Stores.{View}
+use Rattle.stores.specs.Stores.{View, Later, IsEmpty, Emptied}
+use Rattle.search.proofs.LaterFacts.{later_same, later_on}
 use Rattle.search.specs.Calls.{Table, begun, empty, Answer, Judgement, reasons, judged, Does}
 use Rattle.search.specs.Calls.Call.{declare, post, wipe}
 use Rattle.search.proofs.HistoryFacts.{none_fits}
@@ -28,28 +29,32 @@ use Rattle.sheets.proofs.Items.{voice_here, row_here}
 abbrev pub unlost : Table → Table
 unlost t = record { voices = t.voices; rows = t.rows; place = t.place; opened = t.opened; exhausted = t.exhausted; lost = 0 }
 
+-- a store that holds nothing is as Empty leaves it
+pub still_empty : (v : View) → IsEmpty v → Emptied v v
+still_empty v e = record { empty = e; later = later_same v }
+
 -- the call was accepted
-passed : (m : Meaning) (t u : Table) (w : View) (j : Judgement) (i : Item) (n : ℕ) → j ≡ Judgement.passes → goes n ≡ item_step i → u ≡ item_table m t.voices t.rows i → w.held ≡ []
-    → ItemRead m t (if_passes j i) (Ok (Some n)) u w
-passed m t u w j i n e f g h = subst (λ (x : Judgement). ItemRead m t (if_passes x i) (Ok (Some n)) u w) (sym e) (record { step = f; table = g; store = h })
+passed : (m : Meaning) (t u : Table) (v w : View) (j : Judgement) (i : Item) (n : ℕ) → j ≡ Judgement.passes → goes n ≡ item_step i → u ≡ item_table m t.voices t.rows i → Emptied v w
+    → ItemRead m t v (if_passes j i) (Ok (Some n)) u w
+passed m t u v w j i n e f g h = subst (λ (x : Judgement). ItemRead m t v (if_passes x i) (Ok (Some n)) u w) (sym e) (record { step = f; table = g; store = h })
 
 -- it was declined
 turned_down : (m : Meaning) (t u : Table) (v w : View) (j : Judgement) (i : Item) (r : Result (Option ℕ) Cause) (refusal : Refusal) → Unsearched t v → r ≡ Err (Declined refusal)
-    → (j ≡ Judgement.declined (refusal_number refusal)) × (u ≡ t) × (w ≡ v) → ItemRead m t (if_passes j i) r (unlost u) w
+    → (j ≡ Judgement.declined (refusal_number refusal)) × (u ≡ t) × (w ≡ v) → ItemRead m t v (if_passes j i) r (unlost u) w
 turned_down m t u v w j i r refusal U e d =
-    subst (λ (x : Judgement). ItemRead m t (if_passes x i) r (unlost u) w) (sym d.0)
+    subst (λ (x : Judgement). ItemRead m t v (if_passes x i) r (unlost u) w) (sym d.0)
     (record {
       step = ap step_of e;
       table = ap unlost d.1 ∙ ap unlost U.begins;
-      store = ap (λ (x : View). x.held) d.2 ∙ U.holds;
+      store = subst (Emptied v) (sym d.2) (still_empty v U.holds);
     })
 
 declared_by : (m : Meaning) (t u : Table) (v w : View) (s : ℕ) → Does m t v (declare s) Answer.done u w
-    → (judged m t (declare s) ≡ Judgement.passes) × (u ≡ begun (t.voices ++ (s ∷ [])) t.rows) × (w.held ≡ [])
+    → (judged m t (declare s) ≡ Judgement.passes) × (u ≡ begun (t.voices ++ (s ∷ [])) t.rows) × Emptied v w
 declared_by m t u v w s (Does.declares s' w' j e) = (j, refl, e)
 
 posted_by : (m : Meaning) (t u : Table) (v w : View) (bs : List ℕ) → Does m t v (post bs) Answer.done u w
-    → (judged m t (post bs) ≡ Judgement.passes) × (u ≡ begun t.voices (t.rows ++ (decode m bs ∷ []))) × (w.held ≡ [])
+    → (judged m t (post bs) ≡ Judgement.passes) × (u ≡ begun t.voices (t.rows ++ (decode m bs ∷ []))) × Emptied v w
 posted_by m t u v w bs (Does.posts bs' w' j e) = (j, refl, e)
 
 declare_declined : (m : Meaning) (t u : Table) (v w : View) (s n : ℕ) → Does m t v (declare s) (Answer.refused n) u w → (judged m t (declare s) ≡ Judgement.declined n) × (u ≡ t) × (w ≡ v)
@@ -58,28 +63,28 @@ declare_declined m t u v w s n (Does.declines c n' j) = (j, refl, refl)
 post_declined : (m : Meaning) (t u : Table) (v w : View) (bs : List ℕ) (n : ℕ) → Does m t v (post bs) (Answer.refused n) u w → (judged m t (post bs) ≡ Judgement.declined n) × (u ≡ t) × (w ≡ v)
 post_declined m t u v w bs n (Does.declines c n' j) = (j, refl, refl)
 
-pub at_item : (m : Meaning) (t u : Table) (w : View) (i i' : Item) (r : Result (Option ℕ) Cause) → i' ≡ i → ItemRead m t i r u w → ItemRead m t i' r u w
-at_item m t u w i i' r e h = subst (λ (x : Item). ItemRead m t x r u w) (sym e) h
+pub at_item : (m : Meaning) (t u : Table) (v w : View) (i i' : Item) (r : Result (Option ℕ) Cause) → i' ≡ i → ItemRead m t v i r u w → ItemRead m t v i' r u w
+at_item m t u v w i i' r e h = subst (λ (x : Item). ItemRead m t v x r u w) (sym e) h
 
 pub voice_declared : (m : Meaning) (t u : Table) (v w : View) (s : ℕ) → Does m t v (declare s) Answer.done u w
-    → ItemRead m t (if_passes (judged m (begun t.voices t.rows) (declare s)) (voice s)) (Ok (Some 9)) (unlost u) w
+    → ItemRead m t v (if_passes (judged m (begun t.voices t.rows) (declare s)) (voice s)) (Ok (Some 9)) (unlost u) w
 voice_declared m t u v w s D =
     let d = declared_by m t u v w s D in
-    passed m t (unlost u) w (judged m t (declare s)) (voice s) 9 d.0 refl (ap unlost d.1) d.2
+    passed m t (unlost u) v w (judged m t (declare s)) (voice s) 9 d.0 refl (ap unlost d.1) d.2
 
 pub voice_declined : (m : Meaning) (t u : Table) (v w : View) (s : ℕ) (r : Result (Option ℕ) Cause) (refusal : Refusal) → Unsearched t v → r ≡ Err (Declined refusal)
-    → Does m t v (declare s) (Answer.refused (refusal_number refusal)) u w → ItemRead m t (if_passes (judged m (begun t.voices t.rows) (declare s)) (voice s)) r (unlost u) w
+    → Does m t v (declare s) (Answer.refused (refusal_number refusal)) u w → ItemRead m t v (if_passes (judged m (begun t.voices t.rows) (declare s)) (voice s)) r (unlost u) w
 voice_declined m t u v w s r refusal U e D =
     turned_down m t u v w (judged m t (declare s)) (voice s) r refusal U e (declare_declined m t u v w s (refusal_number refusal) D)
 
 pub row_posted : (m : Meaning) (t u : Table) (v w : View) (bs : List ℕ) → Does m t v (post bs) Answer.done u w
-    → ItemRead m t (if_passes (judged m (begun t.voices t.rows) (post bs)) (row bs)) (Ok (Some (length bs))) (unlost u) w
+    → ItemRead m t v (if_passes (judged m (begun t.voices t.rows) (post bs)) (row bs)) (Ok (Some (length bs))) (unlost u) w
 row_posted m t u v w bs D =
     let d = posted_by m t u v w bs D in
-    passed m t (unlost u) w (judged m t (post bs)) (row bs) (length bs) d.0 refl (ap unlost d.1) d.2
+    passed m t (unlost u) v w (judged m t (post bs)) (row bs) (length bs) d.0 refl (ap unlost d.1) d.2
 
 pub row_declined : (m : Meaning) (t u : Table) (v w : View) (bs : List ℕ) (r : Result (Option ℕ) Cause) (refusal : Refusal) → Unsearched t v → r ≡ Err (Declined refusal)
-    → Does m t v (post bs) (Answer.refused (refusal_number refusal)) u w → ItemRead m t (if_passes (judged m (begun t.voices t.rows) (post bs)) (row bs)) r (unlost u) w
+    → Does m t v (post bs) (Answer.refused (refusal_number refusal)) u w → ItemRead m t v (if_passes (judged m (begun t.voices t.rows) (post bs)) (row bs)) r (unlost u) w
 row_declined m t u v w bs r refusal U e D =
     turned_down m t u v w (judged m t (post bs)) (row bs) r refusal U e (post_declined m t u v w bs (refusal_number refusal) D)
 
@@ -93,7 +98,7 @@ pub record SoFar (m : Meaning) (bs : List ℕ) (t : Table) (v : View) (at : ℕ)
   pub enough : length bs < at + bound
   pub same : read_from m bound at t.voices t.rows (drop at bs) ≡ read_sheet m bs
 
-pub none_so_far : (m : Meaning) (bs : List ℕ) (t : Table) (v : View) → t ≡ empty → v.held ≡ [] → SoFar m bs t v 0
+pub none_so_far : (m : Meaning) (bs : List ℕ) (t : Table) (v : View) → t ≡ empty → IsEmpty v → SoFar m bs t v 0
 none_so_far m bs t v e h = record {
   unsearched = record { begins = e ∙ sym (ap (λ (x : Table). begun x.voices x.rows) e); holds = h };
   inside = omega arith;
@@ -128,7 +133,7 @@ module _ (m : Meaning) (bs : List ℕ) (t : Table) (v : View) (at : ℕ) (S : So
       on_by zero l s = absurd (omega (arith, S.inside))
       on_by (suc k) l s = (k, l, ap (read_on m (read_from m k) at t.voices t.rows (drop at bs)) (sym e) ∙ s)
 
-  pub further : (n : ℕ) (u : Table) (w : View) → ItemRead m t (item_at m t.voices t.rows (drop at bs)) (Ok (Some n)) u w → Longer m bs u w at n
+  pub further : (n : ℕ) (u : Table) (w : View) → ItemRead m t v (item_at m t.voices t.rows (drop at bs)) (Ok (Some n)) u w → Longer m bs u w at n
   further n u w h = by (item_at m t.voices t.rows (drop at bs)) refl h.step h.table
     where
       by : (i : Item) → item_at m t.voices t.rows (drop at bs) ≡ i → goes n ≡ item_step i → u ≡ item_table m t.voices t.rows i → Longer m bs u w at n
@@ -141,7 +146,7 @@ module _ (m : Meaning) (bs : List ℕ) (t : Table) (v : View) (at : ℕ) (S : So
           record {
             some = omega arith;
             so_far = record {
-              unsearched = record { begins = refl; holds = h.store };
+              unsearched = record { begins = refl; holds = h.store.empty };
               inside = omega (arith, here.long, length-drop at bs);
               bound = rest.0;
               enough = omega (arith, rest.1);
@@ -157,7 +162,7 @@ module _ (m : Meaning) (bs : List ℕ) (t : Table) (v : View) (at : ℕ) (S : So
           record {
             some = some_row m (begun t.voices t.rows) r here.passes;
             so_far = record {
-              unsearched = record { begins = refl; holds = h.store };
+              unsearched = record { begins = refl; holds = h.store.empty };
               inside = omega (arith, S.inside, ap length here.front, length-take (length r) (drop at bs), length-drop at bs);
               bound = rest.0;
               enough = omega (arith, rest.1, some_row m (begun t.voices t.rows) r here.passes);
@@ -167,30 +172,30 @@ module _ (m : Meaning) (bs : List ℕ) (t : Table) (v : View) (at : ℕ) (S : So
           subst (λ (x : ℕ). Longer m bs u w at x) (sym long) (subst (λ (x : Table). Longer m bs x w at (length r)) (sym g) next)
       by (fault k o l) e f g = let z : ◌≡◌ {A = ℕ} 0 1 = cc in absurd (omega arith)
 
-  pub ended : (u : Table) (w : View) → ItemRead m t (item_at m t.voices t.rows (drop at bs)) (Ok None) u w → RecordsRead (read_sheet m bs) (Ok tt) u w
-  ended u w h = by (item_at m t.voices t.rows (drop at bs)) refl h.step h.table
+  pub ended : (g : View) (u : Table) (w : View) → Later g v → ItemRead m t v (item_at m t.voices t.rows (drop at bs)) (Ok None) u w → RecordsRead (read_sheet m bs) g (Ok tt) u w
+  ended g u w l h = by (item_at m t.voices t.rows (drop at bs)) refl h.step h.table
     where
-      by : (i : Item) → item_at m t.voices t.rows (drop at bs) ≡ i → ends ≡ item_step i → u ≡ item_table m t.voices t.rows i → RecordsRead (read_sheet m bs) (Ok tt) u w
-      by last e f g = let rest = on last e in record { answer = ap outcome_answer rest.2; table = subst (λ (o : Outcome). Filled o u) rest.2 g; store = h.store }
+      by : (i : Item) → item_at m t.voices t.rows (drop at bs) ≡ i → ends ≡ item_step i → u ≡ item_table m t.voices t.rows i → RecordsRead (read_sheet m bs) g (Ok tt) u w
+      by last e f f' = let rest = on last e in record { answer = ap outcome_answer rest.2; table = subst (λ (o : Outcome). Filled o u) rest.2 f'; store = record { empty = h.store.empty; later = later_on l h.store.later } }
       by (voice s) e f g = let z : ◌≡◌ {A = ℕ} 0 1 = cc in absurd (omega arith)
       by (row r) e f g = let z : ◌≡◌ {A = ℕ} 0 1 = cc in absurd (omega arith)
       by (fault k o l) e f g = let z : ◌≡◌ {A = ℕ} 0 1 = cc in absurd (omega arith)
 
-  pub faulted : (cause : Cause) (place : ℕ) (u : Table) (w : View) → place ≡ at + cause_offset cause → ItemRead m t (item_at m t.voices t.rows (drop at bs)) (Err cause) u w
-      → RecordsRead (read_sheet m bs) (Err (record { cause = cause; place = place })) u w
-  faulted cause place u w p h = by (item_at m t.voices t.rows (drop at bs)) refl h.step
+  pub faulted : (cause : Cause) (place : ℕ) (g : View) (u : Table) (w : View) → place ≡ at + cause_offset cause → Later g v
+      → ItemRead m t v (item_at m t.voices t.rows (drop at bs)) (Err cause) u w → RecordsRead (read_sheet m bs) g (Err (record { cause = cause; place = place })) u w
+  faulted cause place g u w p l h = by (item_at m t.voices t.rows (drop at bs)) refl h.step
     where
       by : (i : Item) → item_at m t.voices t.rows (drop at bs) ≡ i → fails (cause_number cause) (cause_offset cause) (cause_layer cause) ≡ item_step i
-          → RecordsRead (read_sheet m bs) (Err (record { cause = cause; place = place })) u w
+          → RecordsRead (read_sheet m bs) g (Err (record { cause = cause; place = place })) u w
       by last e f = let z : ◌≡◌ {A = ℕ} 0 1 = cc in absurd (omega arith)
       by (voice s) e f = let z : ◌≡◌ {A = ℕ} 0 1 = cc in absurd (omega arith)
       by (row r) e f = let z : ◌≡◌ {A = ℕ} 0 1 = cc in absurd (omega arith)
-      by (fault k o l) e f =
-          let rest = on (fault k o l) e in
+      by (fault k o y) e f =
+          let rest = on (fault k o y) e in
           record {
             answer = ap (λ (x : ℕ). declined (cause_number cause) x (cause_layer cause)) p ∙ ap (answered at) f ∙ ap outcome_answer rest.2;
             table = subst (λ (x : Outcome). Filled x u) rest.2 tt;
-            store = h.store;
+            store = record { empty = h.store.empty; later = later_on l h.store.later };
           }
 
 -- ---- the same, with the rest of the bytes at hand
@@ -199,7 +204,7 @@ pub record Left (m : Meaning) (bs : List ℕ) (t : Table) (v : View) (rest : Lis
   pub so_far : SoFar m bs t v (length bs - length rest)
   pub rest-is : rest ≡ drop (length bs - length rest) bs
 
-pub all_left : (m : Meaning) (bs : List ℕ) (t : Table) (v : View) → t ≡ empty → v.held ≡ [] → Left m bs t v bs
+pub all_left : (m : Meaning) (bs : List ℕ) (t : Table) (v : View) → t ≡ empty → IsEmpty v → Left m bs t v bs
 all_left m bs t v e h =
     let none : 0 ≡ length bs - length bs = omega arith in
     record { so_far = subst (SoFar m bs t v) none (none_so_far m bs t v e h); rest-is = ap (λ (n : ℕ). drop n bs) none }
@@ -208,14 +213,14 @@ module _ {m : Meaning} {bs : List ℕ} {t : Table} {v : View} {rest : List ℕ} 
   pub left_inside : length rest ≤ length bs
   left_inside = omega (arith, ap length L.rest-is, length-drop (length bs - length rest) bs)
 
-  pub at_left : {u : Table} {w : View} {r s : Result (Option ℕ) Cause} → r ≡ s → ItemRead m t (item_at m t.voices t.rows rest) r u w
-      → ItemRead m t (item_at m t.voices t.rows (drop (length bs - length rest) bs)) s u w
+  pub at_left : {u : Table} {w : View} {r s : Result (Option ℕ) Cause} → r ≡ s → ItemRead m t v (item_at m t.voices t.rows rest) r u w
+      → ItemRead m t v (item_at m t.voices t.rows (drop (length bs - length rest) bs)) s u w
   at_left {u} {w} {r} {s} e h =
       let i = item_at m t.voices t.rows (drop (length bs - length rest) bs) in
-      subst (λ (x : Result (Option ℕ) Cause). ItemRead m t i x u w) e (at_item m t u w (item_at m t.voices t.rows rest) i r (ap (item_at m t.voices t.rows) (sym L.rest-is)) h)
+      subst (λ (x : Result (Option ℕ) Cause). ItemRead m t v i x u w) e (at_item m t u v w (item_at m t.voices t.rows rest) i r (ap (item_at m t.voices t.rows) (sym L.rest-is)) h)
 
   -- one record further
-  pub more_left : {u : Table} {w : View} {r : Result (Option ℕ) Cause} (n : ℕ) → r ≡ Ok (Some n) → ItemRead m t (item_at m t.voices t.rows rest) r u w
+  pub more_left : {u : Table} {w : View} {r : Result (Option ℕ) Cause} (n : ℕ) → r ≡ Ok (Some n) → ItemRead m t v (item_at m t.voices t.rows rest) r u w
       → (0 < n) × (n ≤ length rest) × Left m bs u w (drop n rest)
   more_left {u} {w} n e h =
       let l = further m bs t v (length bs - length rest) L.so_far n u w (at_left e h) in
@@ -230,13 +235,15 @@ module _ {m : Meaning} {bs : List ℕ} {t : Table} {v : View} {rest : List ℕ} 
 
 -- ---- a Load's end
 
-pub wiped : (m : Meaning) (t u : Table) (v w : View) → Does m t v wipe Answer.done u w → (unlost u ≡ empty) × (w.held ≡ [])
+pub wiped : (m : Meaning) (t u : Table) (v w : View) → Does m t v wipe Answer.done u w → (unlost u ≡ empty) × Emptied v w
 wiped m t u v w (Does.wipes w' e) = (refl, e)
 
 -- the table u after a Load, where s is the table with the records read: wiped where the sheet was declined
-pub leaves_by : (r : Result (Unit {0}) SheetFault) (o : Outcome) (s u : Table) (v w : View) → RecordsRead o r s v → (is_err r ≡ true → (u ≡ empty) × (w.held ≡ [])) → (is_err r ≡ false → (u ≡ s) × (w ≡ v))
-    → LoadLeaves o u w
-leaves_by (Ok x) (accepted voices rows) s u v w R d a = let same = a refl in record { table = same.0 ∙ R.table; store = ap (λ (y : View). y.held) same.1 ∙ R.store }
-leaves_by (Ok x) (refused number place layer) s u v w R d a = let f = R.answer in let z : ◌≡◌ {A = ℕ} 0 1 = cc in absurd (omega arith)
-leaves_by (Err x) (accepted voices rows) s u v w R d a = let f = R.answer in let z : ◌≡◌ {A = ℕ} 0 1 = cc in absurd (omega arith)
-leaves_by (Err x) (refused number place layer) s u v w R d a = let none = d refl in record { table = none.0; store = none.1 }
+pub leaves_by : (r : Result (Unit {0}) SheetFault) (o : Outcome) (s u : Table) (g x v w : View) → Later g x → RecordsRead o x r s v
+    → (is_err r ≡ true → (u ≡ empty) × Emptied v w) → (is_err r ≡ false → (u ≡ s) × (w ≡ v)) → LoadLeaves o g u w
+leaves_by (Ok y) (accepted voices rows) s u g x v w l R d a = let same = a refl in
+    record { table = same.0 ∙ R.table; store = subst (Emptied g) (sym same.1) (record { empty = R.store.empty; later = later_on l R.store.later }) }
+leaves_by (Ok y) (refused number place layer) s u g x v w l R d a = let f = R.answer in let z : ◌≡◌ {A = ℕ} 0 1 = cc in absurd (omega arith)
+leaves_by (Err y) (accepted voices rows) s u g x v w l R d a = let f = R.answer in let z : ◌≡◌ {A = ℕ} 0 1 = cc in absurd (omega arith)
+leaves_by (Err y) (refused number place layer) s u g x v w l R d a = let none = d refl in
+    record { table = none.0; store = record { empty = none.1.empty; later = later_on l (later_on R.store.later none.1.later) } }

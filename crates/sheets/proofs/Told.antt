@@ -8,7 +8,7 @@ use Rattle.rows.specs.Bytes.{Bytes, head_length, lettered, counted, long_enough,
 use Rattle.rows.proofs.Layouts.{bytes_both_ways}
 use Rattle.writing.specs.WrittenRows.{written_row}
 use Rattle.writing.proofs.RowBytes.{row_same}
-use Rattle.stores.specs.Stores.{View}
+use Rattle.stores.specs.Stores.{View, IsEmpty}
 use Rattle.search.specs.Calls.{Table, begun, empty, Call, Answer, Judgement, reasons, judged, Does}
 use Rattle.search.specs.Calls.Call.{declare, post}
 use Rattle.search.specs.Calls.Answer.{done}
@@ -22,7 +22,7 @@ use Rattle.sheets.specs.Reading.Outcome.{accepted, refused}
 use Rattle.sheets.specs.Laws.{Holdable, FirstFault, declared_after, posted_after}
 use Rattle.sheets.proofs.Numbers.{low_first_of_number, number_fits}
 use Rattle.sheets.proofs.Items.{VoiceHere, RowHere, voice_here, row_here, last_here}
-use Rattle.sheets.proofs.Steps.{some_row}
+use Rattle.sheets.proofs.Steps.{still_empty, some_row}
 
 -- ---- one record more
 
@@ -108,7 +108,7 @@ record ReadSo (m : Meaning) (whole : List ℕ) (h : List (Call × Answer)) (w : 
   bytes : Bytes bs
   history : History m (posted_after (declared_after h voices) rows) (begun voices rows) w
 
-module _ (m : Meaning) (L : Laws m) (whole : List ℕ) (h : List (Call × Answer)) (w : View) (e : w.held ≡ []) where
+module _ (m : Meaning) (L : Laws m) (whole : List ℕ) (h : List (Call × Answer)) (w : View) (e : IsEmpty w) where
   pub holdable : {k : List (Call × Answer)} {voices : List ℕ} {rows : List RowData} → History m k (begun voices rows) w → Holdable m voices rows
   holdable {k} {voices} {rows} H = record { limited = limits_stand m k (begun voices rows) w H; all_accepted = (fit m L H).okay }
 
@@ -125,7 +125,7 @@ module _ (m : Meaning) (L : Laws m) (whole : List ℕ) (h : List (Call × Answer
             ∙ ap (λ (x : List ℕ). records voices rows ++ x) (voice_bytes m voices rows bs s V R.bytes) ∙ R.whole_is;
         bytes = bytes_from 9 bs R.bytes;
         history = subst (λ (x : List (Call × Answer)). History m x (begun (voices ++ (s ∷ [])) rows) w) same
-            (History.then before (begun voices rows) (begun (voices ++ (s ∷ [])) rows) w w (declare s) done R.history (voice_fits_word m voices rows bs s V R.bytes) (Does.declares s w V.passes e));
+            (History.then before (begun voices rows) (begun (voices ++ (s ∷ [])) rows) w w (declare s) done R.history (voice_fits_word m voices rows bs s V R.bytes) (Does.declares s w V.passes (still_empty w e)));
       }
 
   one_row : (at : ℕ) (voices : List ℕ) (rows : List RowData) (bs r : List ℕ) → ReadSo m whole h w at voices rows bs → RowHere m voices rows bs r
@@ -143,7 +143,7 @@ module _ (m : Meaning) (L : Laws m) (whole : List ℕ) (h : List (Call × Answer
             ∙ ap (λ (x : List ℕ). records voices rows ++ x) (ap (λ (x : List ℕ). x ++ drop (length r) bs) b.1 ∙ b.2) ∙ R.whole_is;
         bytes = bytes_from (length r) bs R.bytes;
         history = subst (λ (x : List (Call × Answer)). History m x (begun voices (rows ++ (d ∷ []))) w) same
-            (History.then before (begun voices rows) (begun voices (rows ++ (d ∷ []))) w w (post r) done R.history b.0 (Does.posts r w V.passes e));
+            (History.then before (begun voices rows) (begun voices (rows ++ (d ∷ []))) w w (post r) done R.history b.0 (Does.posts r w V.passes (still_empty w e)));
       }
 
   told_on : (n at : ℕ) (voices : List ℕ) (rows : List RowData) (bs : List ℕ) → length bs < suc n → ReadSo m whole h w at voices rows bs
@@ -174,6 +174,6 @@ module _ (m : Meaning) (L : Laws m) (whole : List ℕ) (h : List (Call × Answer
   told_from (suc n) at voices rows bs l R = told_on n at voices rows bs l R (told_from n) (item_at m voices rows bs) refl
 
 -- a sheet read after the calls h, which led to an empty table
-pub told : (m : Meaning) → Laws m → (bs : List ℕ) → Bytes bs → (h : List (Call × Answer)) (w : View) → w.held ≡ [] → History m h empty w → Told m bs h w (read_sheet m bs)
+pub told : (m : Meaning) → Laws m → (bs : List ℕ) → Bytes bs → (h : List (Call × Answer)) (w : View) → IsEmpty w → History m h empty w → Told m bs h w (read_sheet m bs)
 told m L bs b h w e H =
     told_from m L bs h w e (suc (length bs)) 0 [] [] bs (omega arith) (record { placed = refl; whole_is = refl; bytes = b; history = H })

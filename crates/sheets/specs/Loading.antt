@@ -2,7 +2,7 @@
 use Rattle.std.specs.Prelude.{◌≡◌, ℕ, List, [], ◌∷◌, ◌++◌, length, Some, None, Ok, Err, Option, Result}
 use Rattle.rows.specs.Rows.{RowData, Meaning}
 use Rattle.rows.specs.Bytes.{decode}
-use Rattle.stores.specs.Stores.{View}
+use Rattle.stores.specs.Stores.{View, IsEmpty, Emptied}
 use Rattle.search.specs.Calls.{Table, Call, Answer, begun}
 use Rattle.search.specs.Histories.{History}
 use Rattle.search.specs.Results.{Stands}
@@ -34,10 +34,10 @@ outcome_answer (refused number place layer) = declined number place layer
 
 -- ---- what a Load leaves
 
--- the table of the sheet's voices and rows, or an empty one, its search not begun, over a store that holds nothing
-pub record LoadLeaves (o : Outcome) (u : Table) (w : View) : Type 0 where
+-- the table of the sheet's voices and rows, or an empty one, its search not begun, over the store v, emptied
+pub record LoadLeaves (o : Outcome) (v : View) (u : Table) (w : View) : Type 0 where
   pub table : u ≡ table_after o
-  pub store : w.held ≡ []
+  pub store : Emptied v w
 
 -- Whatever the calls were that led to the table t and the store v: to the table u and the store w lead these and then a Wipe with the sheet's Declares
 -- and Posts, all accepted, or after a declined Load the Wipe alone; and what stands after every history stands then.
@@ -79,13 +79,13 @@ item_table m voices rows (fault number offset layer) = begun voices rows
 -- a table whose search has not begun, over a store that holds nothing
 pub record Unsearched (t : Table) (v : View) : Type 0 where
   pub begins : t ≡ begun t.voices t.rows
-  pub holds : v.held ≡ []
+  pub holds : IsEmpty v
 
 -- a record is read: the answer, and the table and the store then
-pub record ItemRead (m : Meaning) (t : Table) (i : Item) (r : Result (Option ℕ) Cause) (u : Table) (w : View) : Type 0 where
+pub record ItemRead (m : Meaning) (t : Table) (v : View) (i : Item) (r : Result (Option ℕ) Cause) (u : Table) (w : View) : Type 0 where
   pub step : step_of r ≡ item_step i
   pub table : u ≡ item_table m t.voices t.rows i
-  pub store : w.held ≡ []
+  pub store : Emptied v w
 
 -- where the sheet is accepted, the table has its voices and rows; where it is not, nothing is said, since a Wipe follows
 abbrev pub Filled : Outcome → Table → Type 0
@@ -93,7 +93,7 @@ Filled (accepted voices rows) u = u ≡ begun voices rows
 Filled (refused number place layer) u = Unit {0}
 
 -- all records are read, up to the sheet's end or its first fault
-pub record RecordsRead (o : Outcome) (r : Result Unit SheetFault) (u : Table) (w : View) : Type 0 where
+pub record RecordsRead (o : Outcome) (v : View) (r : Result Unit SheetFault) (u : Table) (w : View) : Type 0 where
   pub answer : load_answer r ≡ outcome_answer o
   pub table : Filled o u
-  pub store : w.held ≡ []
+  pub store : Emptied v w

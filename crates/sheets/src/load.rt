@@ -1,5 +1,6 @@
 // Sheets loaded.
-ghost use Rattle.std.specs.Prelude.{◌≡◌, true, false, [], is_err};
+ghost use Rattle.std.specs.Prelude.{◌≡◌, true, false, is_err};
+ghost use Rattle.stores.specs.Stores.{IsEmpty};
 ghost use Rattle.search.specs.Calls.{empty, Call, Answer};
 ghost use Rattle.planner.specs.Shown.{model, store_in, CallDone};
 ghost use Rattle.sheets.specs.Reading.{front_row, voice_item, row_item, item_at, read_sheet};
@@ -36,7 +37,7 @@ fn read_voice<B: Bank, S: Store>(
     rest: &[u8],
 ) -> Result<Option<usize>, Cause>
     requires { Unsearched (model table.old 0) (store_in S.Store.view table.old) }
-    ensures { ItemRead B.Bank.meaning (model table.old 0) (voice_item B.Bank.meaning (model table.old 0).voices (model table.old 0).rows rest.now) result (model table.new 0) (store_in S.Store.view table.new) }
+    ensures { ItemRead B.Bank.meaning (model table.old 0) (store_in S.Store.view table.old) (voice_item B.Bank.meaning (model table.old 0).voices (model table.old 0).rows rest.now) result (model table.new 0) (store_in S.Store.view table.new) }
 {
     if !table.rows().is_empty() {
         return Err(Cause::LateVoice);
@@ -54,7 +55,7 @@ fn read_row<B: Bank, S: Store>(
     bytes: &[u8],
 ) -> Result<Option<usize>, Cause>
     requires { Unsearched (model table.old 0) (store_in S.Store.view table.old) }
-    ensures { ItemRead B.Bank.meaning (model table.old 0) (row_item B.Bank.meaning (model table.old 0).voices (model table.old 0).rows bytes.now) result (model table.new 0) (store_in S.Store.view table.new) }
+    ensures { ItemRead B.Bank.meaning (model table.old 0) (store_in S.Store.view table.old) (row_item B.Bank.meaning (model table.old 0).voices (model table.old 0).rows bytes.now) result (model table.new 0) (store_in S.Store.view table.new) }
 {
     let row = front_row::<B>(bytes);
     table.post(row)?;
@@ -67,7 +68,7 @@ fn read_record<B: Bank, S: Store>(
     bytes: &[u8],
 ) -> Result<Option<usize>, Cause>
     requires { Unsearched (model table.old 0) (store_in S.Store.view table.old) }
-    ensures { ItemRead B.Bank.meaning (model table.old 0) (item_at B.Bank.meaning (model table.old 0).voices (model table.old 0).rows bytes.now) result (model table.new 0) (store_in S.Store.view table.new) }
+    ensures { ItemRead B.Bank.meaning (model table.old 0) (store_in S.Store.view table.old) (item_at B.Bank.meaning (model table.old 0).voices (model table.old 0).rows bytes.now) result (model table.new 0) (store_in S.Store.view table.new) }
 {
     match bytes {
         [] => Err(Cause::NoRecord),
@@ -81,8 +82,8 @@ fn read_record<B: Bank, S: Store>(
 // Reads records until the sheet ends, or one is faulty.
 fn read_records<B: Bank, S: Store>(table: &mut Table<B, S>, bytes: &[u8]) -> Result<(), SheetFault>
     requires none { model table.old 0 ≡ empty }
-    requires holds { (store_in S.Store.view table.old).held ≡ [] }
-    ensures { RecordsRead (read_sheet B.Bank.meaning bytes.now) result (model table.new 0) (store_in S.Store.view table.new) }
+    requires holds { IsEmpty (store_in S.Store.view table.old) }
+    ensures { RecordsRead (read_sheet B.Bank.meaning bytes.now) (store_in S.Store.view table.old) result (model table.new 0) (store_in S.Store.view table.new) }
 {
     let mut rest = bytes;
     loop {
@@ -111,7 +112,7 @@ fn wipe_declined<B: Bank, S: Store>(table: &mut Table<B, S>, res: &Result<(), Sh
 // voices and no rows.
 pub fn load<B: Bank, S: Store>(table: &mut Table<B, S>, bytes: &[u8]) -> Result<(), SheetFault>
     ensures value { load_answer result ≡ outcome_answer (read_sheet B.Bank.meaning bytes.now) }
-    ensures after { LoadLeaves (read_sheet B.Bank.meaning bytes.now) (model table.new 0) (store_in S.Store.view table.new) }
+    ensures after { LoadLeaves (read_sheet B.Bank.meaning bytes.now) (store_in S.Store.view table.old) (model table.new 0) (store_in S.Store.view table.new) }
     ensures back { LoadBack (read_sheet B.Bank.meaning bytes.now) bytes.now (sheet_of table.new) }
     ensures lasts { LoadLasts B.Bank.meaning (model table.old) (store_in S.Store.view table.old) (read_sheet B.Bank.meaning bytes.now) (model table.new 0) (store_in S.Store.view table.new) }
 {

@@ -8,7 +8,7 @@ use Rattle.stores.specs.declared.store.Stored.TheVariants.{Kept, Lost}
 
 -- a key that is not held and does not fit may be lost and alter nothing
 pub lost_alone : (v : View) (k : List ℕ) → member k v.held ≡ false → fits (length k) v.space ≡ false → Keeps v k Lost v
-lost_alone v k m f = Keeps.loses v m f (λ x h. or_right (same x k) (member x v.held) h) (λ _. refl) (λ _. refl) refl
+lost_alone v k m f = Keeps.loses v m f (λ x h. or_right (same x k) (member x v.held) h) (λ _. refl) (λ _. refl) (record { room = refl; steady = refl })
 
 -- so a key that a store turns away need not be given: there is an answer to it that leaves the store as it is
 pub turned_away : (v : View) (k : List ℕ) → fits (length k) v.space ≡ false → (r : Stored) × Keeps v k r v

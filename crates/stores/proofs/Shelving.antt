@@ -153,7 +153,7 @@ joined_by ws k room w h = record {
   members = λ x. ap (member x) (shelved_push ws k w h) ∙ member_push x k (shelved ws);
   count = ap length (shelved_push ws k w h) ∙ length-append (shelved ws) (k ∷ []);
   taken = λ _. omega (arith, length-append ws (entry (recent ws) k));
-  as_before = refl;
+  later = record { room = refl; steady = refl };
 }
 
 -- ---- the chain of a bucket

@@ -3,4 +3,4 @@ use Rattle.std.specs.Prelude.{true, []}
 use Rattle.stores.specs.Stores.{View}
 
 abbrev pub nothing : View
-nothing = record { held = []; space = 0; steady = true }
+nothing = record { held = []; space = 0; room = 0; steady = true }

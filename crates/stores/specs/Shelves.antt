@@ -72,7 +72,7 @@ Leads heads ws = (b : ℕ) → b < 1024 → slice_index heads b ≡ newest b (re
 
 -- a shelf by the words that are used and how many may be
 abbrev pub shelf_view : List ℕ → ℕ → View
-shelf_view used room = record { held = shelved used; space = room - length used - 1; steady = true }
+shelf_view used room = record { held = shelved used; space = room - length used - 1; room = room - 1; steady = true }
 
 -- what keeping a key answers, and the words used then: a held key moves nothing, one that fits goes behind the others, a lost one alters nothing
 abbrev pub shelf_keep : List ℕ → ℕ → List ℕ → Stored

@@ -1,6 +1,6 @@
 // What a store of failed nodes' keys owes.
 ghost use Rattle.std.specs.Prelude.{◌≡◌, ◌↔◌, IsTrue, [], false};
-ghost use Rattle.stores.specs.Stores.{View, Keeps, member, fits};
+ghost use Rattle.stores.specs.Stores.{View, Emptied, Keeps, member, fits};
 
 // What became of a key.
 #[derive(Clone, Copy, Debug, PartialEq, Eq)]
@@ -10,12 +10,12 @@ pub enum Stored {
 }
 
 pub trait Store {
-    // the keys that it holds, the words that it has left, and whether it is steady
+    // the keys that it holds, the words that it has left and has in all, and whether it is steady
     ghost view: { Self → View };
 
     // Leaves no keys.
     fn clear(&mut self)
-        ensures { (view self.new).held ≡ [] };
+        ensures { Emptied (view self.old) (view self.new) };
 
     // Whether the key is held.
     fn find(&self, key: &[u64]) -> bool

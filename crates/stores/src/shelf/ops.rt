@@ -1,6 +1,6 @@
 // What a shelf does.
 ghost use Rattle.std.specs.Prelude.{◌≡◌, ℕ, ◌+◌, ◌<◌, ◌≤◌, slice_index, [], ◌∷◌, ◌++◌, length, drop, IsTrue, false, true, not};
-ghost use Rattle.stores.specs.Stores.{Keeps, member, fits};
+ghost use Rattle.stores.specs.Stores.{Emptied, Keeps, member, fits};
 ghost use Rattle.stores.specs.Shelves.{hash_of, shelved, recent, entry, shelf_keep, shelf_after};
 ghost use Rattle.stores.specs.Shown.{used_words, room, view_of};
 
@@ -98,7 +98,7 @@ impl<'a> Store for Shelf<'a> {
     ghost view = { view_of };
 
     fn clear(&mut self)
-        ensures held { (view_of self.new).held ≡ [] }
+        ensures empties { Emptied (view_of self.old) (view_of self.new) }
         ensures used { used_words self.new ≡ [] }
         ensures words { self.new.words.now ≡ self.old.words.now }
     {

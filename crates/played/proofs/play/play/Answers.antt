@@ -1,4 +1,5 @@
 use Rattle.std.proofs.Common.{◌≡◌, length, take, vec_items, arith}
+use Rattle.search.proofs.LaterFacts.{later_on, does_later}
 use Rattle.planner.specs.Shown.{model, store_in}
 use Rattle.played.specs.Meant.{calls_of, answers_of}
 use Rattle.played.specs.Told.{told}
@@ -22,6 +23,7 @@ loop-call-preserved g c =
             (vec_items c.push_reserved.new.self) i c.call-item.result c.in_ok-perform.field-0 c.loop-call-test.true many c.call-item.is
             c.push_reserved.ensures.items (last.history (told (calls_of (take i xs)) (answers_of ys)) before.0 before.1),
       ),
+      later_on c.loop-call.invariant.3 (does_later (c.in_ok-perform.ensures.does.does before.0)),
     )
 
 pub returns : goal.returns
@@ -31,5 +33,5 @@ returns g c =
     let t = c.loop-call.table in
     let before = c.loop-call.invariant.2 in
     let many : length ys ≡ i = omega (arith, c.loop-call.answers.ok, c.loop-call.invariant.0) in
-    all_played g.B.Bank.meaning g.met.B.Bank.lawful c.args.calls.now ys i (model t before.0) (store_in g.S.Store.view t) c.loop-call-test.false
-    c.loop-call.auto.call-index-end many before.1
+    all_played g.B.Bank.meaning g.met.B.Bank.lawful (g.S.Store.view c.args.store) c.args.calls.now ys i (model t before.0) (store_in g.S.Store.view t) c.loop-call-test.false
+    c.loop-call.auto.call-index-end many c.loop-call.invariant.3 before.1

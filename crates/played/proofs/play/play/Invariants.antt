@@ -1,4 +1,5 @@
 use Rattle.std.proofs.Common.{◌≡◌, ℕ, ◌≤◌, length, take, vec_items, vec_len, vec_capacity}
+use Rattle.stores.specs.Stores.{Later}
 use Rattle.search.specs.Histories.{History}
 use Rattle.planner.specs.Shown.{model, store_in}
 use Rattle.played.specs.Meant.{calls_of, answers_of}
@@ -10,3 +11,4 @@ invariant-loop-call g l =
     (vec_len l.answers ≡ l.call-index)
     × (length l.calls ≤ vec_capacity l.answers)
     × ((j : ℕ) × History g.B.Bank.meaning (told (calls_of (take l.call-index l.calls)) (answers_of (vec_items l.answers))) (model l.table j) (store_in g.S.Store.view l.table))
+    × Later (g.S.Store.view l.fn.store) (store_in g.S.Store.view l.table)

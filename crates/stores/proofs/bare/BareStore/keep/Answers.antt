@@ -9,4 +9,4 @@ never_fits zero = refl
 never_fits (suc n) = and_right (ltb 0 (suc n)) (leb (suc n) 0) (lt-leb (suc n) 0 (omega arith))
 
 pub returns : goal.returns
-returns c = record { keeps = Keeps.loses nothing refl (never_fits (length c.args.key.now)) (λ x e. cc) (λ _. refl) (λ _. refl) refl; value = refl }
+returns c = record { keeps = Keeps.loses nothing refl (never_fits (length c.args.key.now)) (λ x e. cc) (λ _. refl) (λ _. refl) (record { room = refl; steady = refl }); value = refl }
