@@ -1,1 +1,2 @@
+pub mod FourKinds
 pub mod Cases
