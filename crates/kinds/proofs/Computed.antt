@@ -56,7 +56,9 @@ cases_stand = record {
   entry_below = refl;
   entry_with_voice = refl;
   entry_undeclared_first = refl;
-  second_bank_turn = refl;
-  first_bank_accepts = refl;
-  no_bank_accepts = refl;
+  four_differing = refl;
+  four_sum = refl;
+  four_clause = refl;
+  four_element = refl;
+  four_none = refl;
 }

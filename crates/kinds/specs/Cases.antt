@@ -2,12 +2,13 @@
 use Rattle.std.specs.Prelude.{◌≡◌, ℕ, List, [], ◌∷◌, ℤ, pos, negsuc, Ok, Err}
 use Rattle.rows.specs.declared.fault.Fault.TheVariants.{Undeclared, RuleBroken}
 use Rattle.rows.specs.declared.member.Member.{Member}
-use Rattle.rows.specs.Rows.{RowData, alone, beside}
+use Rattle.rows.specs.Rows.{RowData}
 use Rattle.rows.specs.declared.trace.Trace.TheVariants.{Settled, Open}
 use Rattle.all_different.specs.Differing.{all_different}
 use Rattle.linear.specs.Sums.{linear}
 use Rattle.clause.specs.Literals.{clause}
 use Rattle.element.specs.Entries.{element}
+use Rattle.kinds.specs.FourKinds.{four_kinds}
 
 abbrev pub of : ℕ → ℤ → Member
 of v a = record { voice = v; argument = a }
@@ -77,6 +78,10 @@ entry_of a = row 0x45 (1 ∷ 0 ∷ 1 ∷ []) (of 0 a ∷ [])
 abbrev pub entry_named : RowData
 entry_named = row 0x45 (1 ∷ 0 ∷ 1 ∷ []) (of 80 (pos 4) ∷ [])
 
+-- the letter B
+abbrev pub of_no_kind : RowData
+of_no_kind = row 0x42 (1 ∷ []) (of 0 (pos 0) ∷ [])
+
 -- ---- what is said of them
 
 pub record CasesStand : Type 0 where
@@ -133,7 +138,9 @@ pub record CasesStand : Type 0 where
   pub entry_below : element.accepts (entry_of (negsuc 0)) 2 ≡ Err RuleBroken
   pub entry_with_voice : element.accepts entry_named 2 ≡ Err RuleBroken
   pub entry_undeclared_first : element.accepts entry_named 1 ≡ Err Undeclared
-  -- banks side by side
-  pub second_bank_turn : (beside (alone all_different) (beside (alone linear) (alone element))).turn entries (15 ∷ 48 ∷ []) ≡ 5 ∷ 16 ∷ []
-  pub first_bank_accepts : (beside (alone all_different) (beside (alone linear) (alone element))).accepts differs_3 3 ≡ Ok tt
-  pub no_bank_accepts : (beside (alone all_different) (beside (alone linear) (alone element))).accepts either_of 2 ≡ Err RuleBroken
+  -- the four kinds side by side: a row of each, and one with a letter of none
+  pub four_differing : four_kinds.accepts differs_3 3 ≡ Ok tt
+  pub four_sum : four_kinds.trace sum_5 (8 ∷ 16 ∷ 32 ∷ 7 ∷ 7 ∷ []) ≡ Open 4000016
+  pub four_clause : four_kinds.turn either_of (1 ∷ 12 ∷ []) ≡ 1 ∷ 8 ∷ []
+  pub four_element : four_kinds.turn entries (15 ∷ 48 ∷ []) ≡ 5 ∷ 16 ∷ []
+  pub four_none : four_kinds.accepts of_no_kind 1 ≡ Err RuleBroken
