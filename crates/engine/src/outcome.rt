@@ -1,7 +1,7 @@
 // What a search has come to. The enum stands alone here, since the definitions name it.
 pub mod name;
 
-// Its nodes are used up, it has found values, there is no lawful placing.
+// It is not over, it has found values, there is no lawful placing.
 #[derive(Clone, Copy, Debug, PartialEq, Eq)]
 pub enum Outcome {
     Stopped,

@@ -1,5 +1,5 @@
 -- What a call does, from what its code leaves; and what then lasts over whole histories.
-use Rattle.std.proofs.Common.{◌≡◌, ℕ, ◌+◌, false, ◌⊎◌, List, [], ◌∷◌, ◌++◌, length, drop, vec_items, sym, refl, ap, ◌∙◌, subst, inl, inr}
+use Rattle.std.proofs.Common.{◌≡◌, ℕ, ◌+◌, false, ◌⊎◌, List, [], ◌∷◌, ◌++◌, length, drop, Ok, Err, Result, OnErr, vec_items, sym, refl, ap, ◌∙◌, subst, inl, inr}
 use Rattle.std.proofs.lemmas.List.{length-map}
 use Rattle.sets.specs.Sets.{least}
 use Rattle.sets.specs.Placings.{values}
@@ -21,6 +21,7 @@ use Rattle.engine.specs.declared.outcome.Outcome.TheVariants as out
 use Rattle.engine.specs.declared.state.Search.{Search}
 use Rattle.engine.specs.Places.{place_of}
 use Rattle.engine.specs.Searches.{place, table_of, Begun, outcome_of, Runs}
+use Rattle.planner.specs.declared.refusal.Refusal.{Refusal}
 use Rattle.planner.specs.Shown.{outcome_answer}
 use Rattle.planner.specs.Lasting.{Done, Tells, ReadTells, Lasts}
 
@@ -63,6 +64,11 @@ begun_table voices rows n s b =
 
 pub declines_by : (m : Meaning) (t : ℕ → Table) (v : View) (c : Call) (n : ℕ) → ((j : ℕ) → judged m (t j) c ≡ Judgement.declined n) → Done m t v c (Answer.refused n) t v
 declines_by m t v c n e = record { lost = λ j. j; does = λ j. Does.declines c n (e j) }
+
+-- what holds anyway holds where a call is declined
+pub on_err : {P : Type 0} (r : Result (Unit {0}) Refusal) → P → OnErr r P
+on_err (Ok x) p = tt
+on_err (Err refusal) p = p
 
 -- declined, with a row written beyond the table's own
 pub declines_kept : (m : Meaning) (voices : List ℕ) (rows rows' : List RowData) (s : Search) (v : View) (c : Call) (n : ℕ) (a : Answer) → rows' ≡ rows → a ≡ Answer.refused n

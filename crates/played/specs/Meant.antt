@@ -1,5 +1,5 @@
 -- What the code's calls and answers mean.
-use Rattle.std.specs.Prelude.{List, map, vec_items}
+use Rattle.std.specs.Prelude.{Bool, true, false, List, map, vec_items}
 use Rattle.search.specs.Calls as calls
 use Rattle.planner.specs.Refusals.{refusal_number}
 use Rattle.played.specs.declared.call.Call.{Call}
@@ -13,6 +13,14 @@ call_of (Post bytes) = calls.Call.post (vec_items bytes)
 call_of (Solve budget) = calls.Call.solve budget
 call_of (Read bytes) = calls.Call.read (vec_items bytes)
 call_of Wipe = calls.Call.wipe
+
+-- a Solve wants memory for the values, and a Read for its copy of the bytes
+abbrev pub wants_memory : Call → Bool
+wants_memory (Declare set) = false
+wants_memory (Post bytes) = false
+wants_memory (Solve budget) = true
+wants_memory (Read bytes) = true
+wants_memory Wipe = false
 
 abbrev pub answer_of : Answer → calls.Answer
 answer_of Done = calls.Answer.done

@@ -1,9 +1,9 @@
 // One call performed.
-ghost use Rattle.std.specs.Prelude.{◌≡◌, IfOk, OnErr};
+ghost use Rattle.std.specs.Prelude.{◌≡◌, true, false, is_ok, IfOk, OnErr};
 ghost use Rattle.search.specs.Calls.{Call as CallOf};
 ghost use Rattle.planner.specs.Shown.{model, store_in, done_answer};
 ghost use Rattle.planner.specs.Lasting.{Done, Lasts};
-ghost use Rattle.played.specs.Meant.{call_of, answer_of};
+ghost use Rattle.played.specs.Meant.{call_of, answer_of, wants_memory};
 
 use crate::call::{Answer, Call};
 use engine::outcome::Outcome;
@@ -62,7 +62,7 @@ fn perform_read<B: Bank, S: Store>(
     }
 }
 
-// Performs the call on the table. With an error for want of memory the table is as it was.
+// Performs the call on the table. Only where the call wants memory there may be none; the table is as it was then.
 pub fn perform<B: Bank, S: Store>(
     table: &mut Table<B, S>,
     heap: Global,
@@ -71,6 +71,7 @@ pub fn perform<B: Bank, S: Store>(
     ensures does { IfOk result (λ a. Done B.Bank.meaning (model table.old) (store_in S.Store.view table.old) (call_of call.now) (answer_of a) (model table.new) (store_in S.Store.view table.new)) }
     ensures lasts { IfOk result (λ a. Lasts B.Bank.meaning (model table.old) (store_in S.Store.view table.old) (call_of call.now) (answer_of a) (model table.new) (store_in S.Store.view table.new)) }
     ensures kept { OnErr result (table.new ≡ table.old) }
+    ensures answers { wants_memory call.now ≡ false → is_ok result ≡ true }
 {
     match call {
         Call::Declare(set) => Ok(done_or_refused(table.declare(*set))),

@@ -29,6 +29,6 @@ abbrev pub size : List ℕ → ℕ
 size [] = 0
 size (s ∷ sets) = count_ones s + size sets
 
--- each round but the last takes a value out, and a set has 64 values at most
+-- over a lawful bank each round but the last takes a value out, and a set has 64 values at most
 abbrev pub propagated : Meaning → List RowData → List ℕ → List ℕ
 propagated m rows s = rounds m rows (suc (64 * length s)) s

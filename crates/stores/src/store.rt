@@ -25,7 +25,7 @@ pub trait Store {
     fn is_empty(&self) -> bool
         ensures { IsTrue result ↔ ((view self.now).held ≡ []) };
 
-    // Whether a key of so many words need not be given, as it would alter nothing. A store may answer no at any time.
+    // Whether a key of so many words does not fit, and need not be given. A store may answer no at any time, and must where a key that does not fit alters it.
     fn turns_away(&self, words: usize) -> bool
         ensures { IsTrue result → (fits words (view self.now).space ≡ false) };
 

@@ -1,5 +1,5 @@
 // A table given its voices and rows, and wiped.
-ghost use Rattle.std.specs.Prelude.{◌≡◌, ◌+◌, not, ◌||◌, length, nat_le, nat_lt};
+ghost use Rattle.std.specs.Prelude.{◌≡◌, ◌+◌, OnErr, not, ◌||◌, length, nat_le, nat_lt};
 ghost use Rattle.rows.specs.Bytes.{total_bytes};
 ghost use Rattle.search.specs.Limits.{most_rows, most_bytes};
 ghost use Rattle.search.specs.Calls.{Call, Answer};
@@ -17,6 +17,7 @@ impl<B: Bank, S: Store> Table<B, S> {
     pub fn declare(&mut self, set: ValueSet) -> Result<(), Refusal>
         ensures does { CallDone B.Bank.meaning S.Store.view self.old (Call.declare set) (done_answer result) self.new }
         ensures lasts { CallLasts B.Bank.meaning S.Store.view self.old (Call.declare set) (done_answer result) self.new }
+        ensures declined { OnErr result (self.new.store ≡ self.old.store) }
     {
         if set == 0 {
             return Err(Refusal::EmptySet);
@@ -44,6 +45,7 @@ impl<B: Bank, S: Store> Table<B, S> {
     pub fn post(&mut self, bytes: &[u8]) -> Result<(), Refusal>
         ensures does { CallDone B.Bank.meaning S.Store.view self.old (Call.post bytes.now) (done_answer result) self.new }
         ensures lasts { CallLasts B.Bank.meaning S.Store.view self.old (Call.post bytes.now) (done_answer result) self.new }
+        ensures declined { OnErr result (self.new.store ≡ self.old.store) }
     {
         let voices = self.voices.len();
         accept_bytes::<B>(bytes, voices, &mut self.rows[self.posted])?;

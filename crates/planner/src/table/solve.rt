@@ -1,5 +1,5 @@
 // A table searched.
-ghost use Rattle.std.specs.Prelude.{◌≡◌};
+ghost use Rattle.std.specs.Prelude.{◌≡◌, OnErr};
 ghost use Rattle.search.specs.Calls.{Call};
 ghost use Rattle.planner.specs.Shown.{model, found_in, CallDone, CallLasts, solve_answer};
 
@@ -19,6 +19,7 @@ impl<B: Bank, S: Store> Table<B, S> {
     pub fn solve(&mut self, budget: u64) -> Result<Outcome, Refusal>
         ensures does { CallDone B.Bank.meaning S.Store.view self.old (Call.solve budget) (solve_answer result (found_in self.new)) self.new }
         ensures lasts { CallLasts B.Bank.meaning S.Store.view self.old (Call.solve budget) (solve_answer result (found_in self.new)) self.new }
+        ensures declined { OnErr result (self.new.store ≡ self.old.store) }
     {
         if budget == 0 || budget > MOST_BUDGET {
             return Err(Refusal::BudgetRange);

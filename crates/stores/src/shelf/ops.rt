@@ -32,6 +32,7 @@ impl<'a> Shelf<'a> {
     pub fn new(words: &'a mut [u64]) -> Shelf<'a>
         ensures used { used_words result ≡ [] }
         ensures words { result.words.now ≡ words.old }
+        ensures same { result.words.ghost_name ≡ words.entry.ghost_name }
     {
         Shelf {
             words,

@@ -1,4 +1,4 @@
-use Rattle.std.proofs.Common.{◌+◌, ◌^◌, ◌<◌, ◌≤◌, length, vec_items, arith, rules}
+use Rattle.std.proofs.Common.{◌+◌, ◌^◌, ◌<◌, ◌≤◌, length, vec_items, refl, arith, rules}
 use Rattle.search.specs.Calls.{Answer}
 use Rattle.search.specs.Calls.Call.{declare}
 use Rattle.engine.specs.Searches.{table_of, voice_count}
@@ -14,7 +14,7 @@ returns-then-set-eq0 g c =
     let v = store_in g.S.Store.view t in
     let fits : c.args.set < 2 ^ 64 = search rules in
     let d = declines_by m (model t) v (declare c.args.set) 10 (λ j. empty_set m (model t j) c.args.set c.if-set-eq0.true) in
-    record { does = d; lasts = lasts_by m g.met.B.Bank.lawful (model t) v (declare c.args.set) (Answer.refused 10) (model t) v fits d }
+    record { does = d; lasts = lasts_by m g.met.B.Bank.lawful (model t) v (declare c.args.set) (Answer.refused 10) (model t) v fits d; declined = refl }
 
 pub returns-then-len-ge-MOST_VOICES : goal.returns-then-len-ge-MOST_VOICES
 returns-then-len-ge-MOST_VOICES g c =
@@ -24,7 +24,7 @@ returns-then-len-ge-MOST_VOICES g c =
     let fits : c.args.set < 2 ^ 64 = search rules in
     let full : 80 ≤ length (vec_items t.voices) = omega (arith, t.voices.ok.0) in
     let d = declines_by m (model t) v (declare c.args.set) 11 (λ j. voices_full m (model t j) c.args.set c.if-set-eq0.false full) in
-    record { does = d; lasts = lasts_by m g.met.B.Bank.lawful (model t) v (declare c.args.set) (Answer.refused 11) (model t) v fits d }
+    record { does = d; lasts = lasts_by m g.met.B.Bank.lawful (model t) v (declare c.args.set) (Answer.refused 11) (model t) v fits d; declined = refl }
 
 pub returns : goal.returns
 returns g c =
@@ -38,4 +38,4 @@ returns g c =
     let room : length (vec_items t.voices) < 80 = omega (arith, t.voices.ok.0) in
     let d = declares_by m (vec_items t.voices) voices (rows_in t) t.search s v w c.args.set (voice_count t.search + 1) c.push_reserved.ensures.items c.add_voice.ensures
     (λ j. voice_fits m (model t j) c.args.set c.if-set-eq0.false room) c.clear.ensures in
-    record { does = d; lasts = lasts_by m g.met.B.Bank.lawful (model t) v (declare c.args.set) Answer.done (table_of voices (rows_in t) s) w fits d }
+    record { does = d; lasts = lasts_by m g.met.B.Bank.lawful (model t) v (declare c.args.set) Answer.done (table_of voices (rows_in t) s) w fits d; declined = tt }
