@@ -2,4 +2,5 @@ pub mod Shelving
 pub mod Leading
 pub mod Tables
 pub mod Searches
+pub mod Worked
 pub mod Refusals

@@ -3,7 +3,7 @@
 
 ghost use Rattle.cases.specs.Shelving.{StoresBehave};
 ghost use Rattle.cases.specs.Leading.{CallsDecide};
-ghost use Rattle.cases.specs.Searches.{SearchesStand};
+ghost use Rattle.cases.specs.Worked.{WorkedStand};
 ghost use Rattle.cases.specs.Refusals.{RefusalsStand, LimitsReached};
 
 // The two stores behave as the cases take it.
@@ -16,9 +16,9 @@ pub fn calls_decide()
     ensures { CallsDecide }
 {}
 
-// The searches of the table of cases lead to what is written there.
-pub fn searches_stand()
-    ensures { SearchesStand }
+// The worked cases, of turns, traces and searches, come to what is written there.
+pub fn worked_cases_stand()
+    ensures { WorkedStand }
 {}
 
 // The calls of the table of cases pass, or are declined under the number written there.

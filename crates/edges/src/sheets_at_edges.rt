@@ -197,6 +197,26 @@ fn largest_planned(rt: HostRuntime) -> Result<(), Fail> {
     Ok(())
 }
 
+// Two voices with the places 1 and 3, and a row that says that they differ; and what is printed where its second argument is not 0.
+static PRINTED: [(&[u8], &str); 2] = [
+    (
+        b"V\x0a\0\0\0\0\0\0\0V\x0a\0\0\0\0\0\0\0A\x02M\0\0\0M\x01\0\0Z",
+        "found\nopened 2\nexhausted 0\n0 1\n1 3\n",
+    ),
+    (
+        b"V\x0a\0\0\0\0\0\0\0V\x0a\0\0\0\0\0\0\0A\x02M\0\0\0M\x01\x01\0Z",
+        "refused 9 at 18 in row\n",
+    ),
+];
+
+#[test]
+fn printed(rt: HostRuntime) -> Result<(), Fail> {
+    for (bytes, expected) in &PRINTED {
+        assert!(rt; planned(&rt, bytes)?.as_slice() == expected.as_bytes());
+    }
+    Ok(())
+}
+
 // More bytes than are read, all of them voices, of which 80 fit; and 120 rows of 32 literals, of which 63 fit (8,190 bytes).
 #[test]
 fn more_than_fits(rt: HostRuntime) -> Result<(), Fail> {
