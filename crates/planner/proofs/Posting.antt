@@ -9,7 +9,7 @@ use Rattle.rows.specs.declared.fault.RowFault.TheVariants.{UnknownLetter, BadCou
 use Rattle.rows.specs.Numbers.{row_number_of}
 use Rattle.rows.specs.Rows.{RowData, Meaning, Verdict}
 use Rattle.rows.specs.Views.{row_of, rows_of}
-use Rattle.rows.specs.Bytes.{Bytes, head_length, lettered, counted, long_enough, marked, Layout, decode, encode, total_bytes}
+use Rattle.rows.specs.Bytes.{Bytes, head_length, lettered, counted, right_length, marked, Layout, decode, encode, total_bytes}
 use Rattle.rows.specs.Reading.{checked, of_kind, row_verdict, row_after}
 use Rattle.rows.proofs.Layouts.{bytes_both_ways}
 use Rattle.rows.proofs.Readings.{layout_right}
@@ -71,21 +71,21 @@ full_for rows bytes = leb most_rows (length rows) || ltb most_bytes (total_bytes
 module _ (m : Meaning) (t : Table) (bs : List ℕ) where
   pub bytes_decline : (f : RowFault) → fault f ≡ row_verdict m bs (length t.voices) → judged m t (post bs) ≡ declined (row_number_of f)
   bytes_decline f e =
-      faulty (lettered m bs) (counted bs) (long_enough m bs) (marked (drop (head_length m bs) bs)) (m.accepts (decode m bs) (length t.voices)) (full_for t.rows (length bs)) f e
+      faulty (lettered m bs) (counted bs) (right_length m bs) (marked (drop (head_length m bs) bs)) (m.accepts (decode m bs) (length t.voices)) (full_for t.rows (length bs)) f e
 
   pub rows_full : (y : Unit {0}) → Ok y ≡ row_verdict m bs (length t.voices) → full_for t.rows (length bs) ≡ true → judged m t (post bs) ≡ declined 12
   rows_full y e h =
-      faultless (lettered m bs) (counted bs) (long_enough m bs) (marked (drop (head_length m bs) bs)) (m.accepts (decode m bs) (length t.voices)) (full_for t.rows (length bs)) y e
+      faultless (lettered m bs) (counted bs) (right_length m bs) (marked (drop (head_length m bs) bs)) (m.accepts (decode m bs) (length t.voices)) (full_for t.rows (length bs)) y e
       ∙ ap (λ (b : Bool). judge ((12, b) ∷ [])) h
 
   pub row_fits : (y : Unit {0}) → Ok y ≡ row_verdict m bs (length t.voices) → full_for t.rows (length bs) ≡ false → judged m t (post bs) ≡ passes
   row_fits y e h =
-      faultless (lettered m bs) (counted bs) (long_enough m bs) (marked (drop (head_length m bs) bs)) (m.accepts (decode m bs) (length t.voices)) (full_for t.rows (length bs)) y e
+      faultless (lettered m bs) (counted bs) (right_length m bs) (marked (drop (head_length m bs) bs)) (m.accepts (decode m bs) (length t.voices)) (full_for t.rows (length bs)) y e
       ∙ ap (λ (b : Bool). judge ((12, b) ∷ [])) h
 
 pub laid_out : (m : Meaning) (bs : List ℕ) (n : ℕ) (y : Unit {0}) → Ok y ≡ row_verdict m bs n → Layout m bs
 laid_out m bs n y e =
-    let r = all_right (lettered m bs) (counted bs) (long_enough m bs) (marked (drop (head_length m bs) bs)) (m.accepts (decode m bs) n) y e in
+    let r = all_right (lettered m bs) (counted bs) (right_length m bs) (marked (drop (head_length m bs) bs)) (m.accepts (decode m bs) n) y e in
     record { letters = r.0; counts = r.1; long = r.2; marks = r.3 }
 
 -- ---- the room

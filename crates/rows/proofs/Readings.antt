@@ -8,7 +8,7 @@ use Rattle.rows.specs.declared.fault.Fault.{Fault}
 use Rattle.rows.specs.declared.member.Member.{Member}
 use Rattle.rows.specs.Rows.{RowData, Meaning}
 use Rattle.rows.specs.Laws.{Laws}
-use Rattle.rows.specs.Bytes.{letter_byte, count_byte, head_length, lettered, counted, long_enough, marked, Layout, members_in, decode, member_bytes}
+use Rattle.rows.specs.Bytes.{letter_byte, count_byte, head_length, lettered, counted, right_length, marked, Layout, members_in, decode, member_bytes}
 use Rattle.rows.specs.Reading.{checked, layout, layout_fault, of_kind, row_verdict, row_after, with_bytes, with_members_in}
 use Rattle.rows.specs.Views.{blank, with_byte, with_member}
 
@@ -131,10 +131,10 @@ checked_passed false f next x e = (cc, cc)
 
 -- after the first three tests the fourth decides
 pub layout_marks : {A : Type 0} (m : Meaning) (bs : List ℕ) (next : Result A RowFault) (b : Bool)
-    → lettered m bs ≡ true → counted bs ≡ true → long_enough m bs ≡ true → marked (drop (head_length m bs) bs) ≡ b → layout m bs next ≡ checked b UnmarkedMember next
+    → lettered m bs ≡ true → counted bs ≡ true → right_length m bs ≡ true → marked (drop (head_length m bs) bs) ≡ b → layout m bs next ≡ checked b UnmarkedMember next
 layout_marks m bs next b x y z w =
-    ap (λ t. checked t UnknownLetter (checked (counted bs) BadCount (checked (long_enough m bs) WrongLength (checked (marked (drop (head_length m bs) bs)) UnmarkedMember next)))) x
-    ∙ ap (λ t. checked t BadCount (checked (long_enough m bs) WrongLength (checked (marked (drop (head_length m bs) bs)) UnmarkedMember next))) y
+    ap (λ t. checked t UnknownLetter (checked (counted bs) BadCount (checked (right_length m bs) WrongLength (checked (marked (drop (head_length m bs) bs)) UnmarkedMember next)))) x
+    ∙ ap (λ t. checked t BadCount (checked (right_length m bs) WrongLength (checked (marked (drop (head_length m bs) bs)) UnmarkedMember next))) y
     ∙ ap (λ t. checked t WrongLength (checked (marked (drop (head_length m bs) bs)) UnmarkedMember next)) z
     ∙ ap (λ t. checked t UnmarkedMember next) w
 
@@ -157,9 +157,9 @@ start_marks m bs next x n b p q l k =
 -- bytes that pass the tests have the layout
 pub layout_passed : (m : Meaning) (bs : List ℕ) (x y : ℕ) → Ok x ≡ layout m bs (Ok y) → Layout m bs × (x ≡ y)
 layout_passed m bs x y e =
-    let a = checked_passed (lettered m bs) UnknownLetter (checked (counted bs) BadCount (checked (long_enough m bs) WrongLength (checked (marked (drop (head_length m bs) bs)) UnmarkedMember (Ok y)))) x e in
-    let b = checked_passed (counted bs) BadCount (checked (long_enough m bs) WrongLength (checked (marked (drop (head_length m bs) bs)) UnmarkedMember (Ok y))) x a.1 in
-    let c = checked_passed (long_enough m bs) WrongLength (checked (marked (drop (head_length m bs) bs)) UnmarkedMember (Ok y)) x b.1 in
+    let a = checked_passed (lettered m bs) UnknownLetter (checked (counted bs) BadCount (checked (right_length m bs) WrongLength (checked (marked (drop (head_length m bs) bs)) UnmarkedMember (Ok y)))) x e in
+    let b = checked_passed (counted bs) BadCount (checked (right_length m bs) WrongLength (checked (marked (drop (head_length m bs) bs)) UnmarkedMember (Ok y))) x a.1 in
+    let c = checked_passed (right_length m bs) WrongLength (checked (marked (drop (head_length m bs) bs)) UnmarkedMember (Ok y)) x b.1 in
     let d = checked_passed (marked (drop (head_length m bs) bs)) UnmarkedMember (Ok y) x c.1 in
     let f = d.1 in
     (record { letters = a.0; counts = b.0; long = c.0; marks = d.0 }, cc)
@@ -182,7 +182,7 @@ faults_same true true true true y = refl
 pub layout_failed : (m : Meaning) (bs : List ℕ) (y : ℕ) (e : RowFault) → Err e ≡ layout m bs (Ok y) → layout_fault m bs ≡ Err e
 unfolding without_value
 layout_failed m bs y e h =
-    sym (ap without_value h ∙ faults_same (lettered m bs) (counted bs) (long_enough m bs) (marked (drop (head_length m bs) bs)) y)
+    sym (ap without_value h ∙ faults_same (lettered m bs) (counted bs) (right_length m bs) (marked (drop (head_length m bs) bs)) y)
 
 -- what is left of a row that has a fault
 pub row_unread : (m : Meaning) (bs : List ℕ) (y : ℕ) (e : RowFault) (before : RowData) → Err e ≡ layout m bs (Ok y) → before ≡ row_after m bs before
@@ -212,13 +212,13 @@ after_none true true true true next h = refl
 
 pub verdict_failed : (m : Meaning) (bs : List ℕ) (voices : ℕ) (e : RowFault) → Err e ≡ layout_fault m bs → row_verdict m bs voices ≡ Err e
 verdict_failed m bs voices e h =
-    after_fault (lettered m bs) (counted bs) (long_enough m bs) (marked (drop (head_length m bs) bs)) (of_kind (m.accepts (decode m bs) voices)) e h
+    after_fault (lettered m bs) (counted bs) (right_length m bs) (marked (drop (head_length m bs) bs)) (of_kind (m.accepts (decode m bs) voices)) e h
 
 pub verdict_declined : (m : Meaning) (bs : List ℕ) (voices : ℕ) (f : Fault) (row before : RowData)
     → Ok tt ≡ layout_fault m bs → row ≡ row_after m bs before → Err f ≡ m.accepts row voices → row_verdict m bs voices ≡ Err (Declined f)
 verdict_declined m bs voices f row before h r e =
     let is : row ≡ decode m bs = r ∙ sym (ap (λ (x : Result Unit RowFault). cond (is_ok x) (decode m bs) before) h) in
-    after_none (lettered m bs) (counted bs) (long_enough m bs) (marked (drop (head_length m bs) bs)) (of_kind (m.accepts (decode m bs) voices)) h
+    after_none (lettered m bs) (counted bs) (right_length m bs) (marked (drop (head_length m bs) bs)) (of_kind (m.accepts (decode m bs) voices)) h
     ∙ sym (ap of_kind (e ∙ ap (λ (x : RowData). m.accepts x voices) is))
 
 pub layout_right : (m : Meaning) (bs : List ℕ) → Layout m bs → layout_fault m bs ≡ Ok tt

@@ -34,8 +34,8 @@ abbrev pub counted : List ℕ → Bool
 counted bs = nat_lt 1 (length bs) && (nat_le 1 (count_byte bs) && nat_le (count_byte bs) 32)
 
 -- the bytes are as many as the letter and the count ask for
-abbrev pub long_enough : Meaning → List ℕ → Bool
-long_enough m bs = length bs == head_length m bs + 4 * count_byte bs
+abbrev pub right_length : Meaning → List ℕ → Bool
+right_length m bs = length bs == head_length m bs + 4 * count_byte bs
 
 -- each member, of four bytes, begins with hex 4D
 abbrev pub marked : List ℕ → Bool
@@ -49,7 +49,7 @@ marked (a ∷ v ∷ low ∷ high ∷ bs) = a == 0x4D && marked bs
 pub record Layout (m : Meaning) (bs : List ℕ) : Type 0 where
   pub letters : lettered m bs ≡ true
   pub counts : counted bs ≡ true
-  pub long : long_enough m bs ≡ true
+  pub long : right_length m bs ≡ true
   pub marks : marked (drop (head_length m bs) bs) ≡ true
 
 -- ---- reading

@@ -3,7 +3,7 @@ use Rattle.std.specs.Prelude.{ℕ, Bool, cond, List, ◌++◌, take, drop, is_ok
 use Rattle.rows.specs.declared.fault.RowFault.{RowFault}
 use Rattle.rows.specs.declared.fault.RowFault.TheVariants.{UnknownLetter, BadCount, WrongLength, UnmarkedMember, Declined}
 use Rattle.rows.specs.Rows.{RowData, Meaning, Verdict}
-use Rattle.rows.specs.Bytes.{head_length, lettered, counted, long_enough, marked, decode, members_in}
+use Rattle.rows.specs.Bytes.{head_length, lettered, counted, right_length, marked, decode, members_in}
 
 -- what comes next where the test holds, the fault where it does not
 abbrev pub checked : {A E : Type 0} → Bool → E → Result A E → Result A E
@@ -13,7 +13,7 @@ checked test fault next = cond test next (Err fault)
 abbrev pub layout : {A : Type 0} → Meaning → List ℕ → Result A RowFault → Result A RowFault
 layout m bs next =
     checked (lettered m bs) UnknownLetter
-    (checked (counted bs) BadCount (checked (long_enough m bs) WrongLength (checked (marked (drop (head_length m bs) bs)) UnmarkedMember next)))
+    (checked (counted bs) BadCount (checked (right_length m bs) WrongLength (checked (marked (drop (head_length m bs) bs)) UnmarkedMember next)))
 
 -- what is wrong with the layout of the bytes, if anything is
 abbrev pub layout_fault : Meaning → List ℕ → Result Unit RowFault

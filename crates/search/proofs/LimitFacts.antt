@@ -4,7 +4,7 @@ use Rattle.std.proofs.lemmas.Bool.{both_ways, or_parts, and_cases, leb-false, lt
 use Rattle.std.proofs.lemmas.List.{length_push}
 use Rattle.sets.specs.Placings.{Proper}
 use Rattle.rows.specs.Rows.{RowData, Meaning}
-use Rattle.rows.specs.Bytes.{head_length, lettered, counted, long_enough, marked, decode, encode, total_bytes, LaidOut, Layout}
+use Rattle.rows.specs.Bytes.{head_length, lettered, counted, right_length, marked, decode, encode, total_bytes, LaidOut, Layout}
 use Rattle.rows.proofs.Layouts.{bytes_both_ways}
 use Rattle.stores.specs.Stores.{View}
 use Rattle.search.specs.Limits.{most_voices, most_rows, most_bytes, most_opened}
@@ -29,7 +29,7 @@ layout m t bs j =
     record {
       letters = not-false (lettered m bs) f.0;
       counts = not-false (counted bs) f.1.0;
-      long = not-false (long_enough m bs) f.1.1.0;
+      long = not-false (right_length m bs) f.1.1.0;
       marks = not-false (marked (drop (head_length m bs) bs)) f.1.1.1.0;
     }
 

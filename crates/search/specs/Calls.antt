@@ -2,7 +2,7 @@
 use Rattle.std.specs.Prelude.{◌≡◌, ℕ, zero, suc, ◌+◌, ◌^◌, ◌<◌, ◌≤◌, Bool, true, false, not, ◌&&◌, ◌||◌, ◌⊎◌, List, [], ◌∷◌, ◌++◌, length, drop, Ok, Err, ◌==◌, nat_le, nat_lt}
 use Rattle.rows.specs.Numbers.{number_of}
 use Rattle.rows.specs.Rows.{RowData, Meaning, Verdict}
-use Rattle.rows.specs.Bytes.{Bytes, head_length, lettered, counted, long_enough, marked, decode, total_bytes}
+use Rattle.rows.specs.Bytes.{Bytes, head_length, lettered, counted, right_length, marked, decode, total_bytes}
 use Rattle.stores.specs.Stores.{View, Emptied}
 use Rattle.search.specs.Limits.{most_voices, most_rows, most_bytes, most_budget, most_opened}
 use Rattle.search.specs.Search.{Place, Steps}
@@ -88,7 +88,7 @@ reasons m t (declare s) = (10, (s == 0)) ∷ (11, nat_le most_voices (length t.v
 reasons m t (post bs) =
     (2, not (lettered m bs))
     ∷ (5, not (counted bs))
-    ∷ (6, not (long_enough m bs))
+    ∷ (6, not (right_length m bs))
     ∷ (7, not (marked (drop (head_length m bs) bs)))
     ∷ (8, declined_under 8 (m.accepts (decode m bs) (length t.voices)))
     ∷ (9, declined_under 9 (m.accepts (decode m bs) (length t.voices)))

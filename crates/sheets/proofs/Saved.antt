@@ -4,7 +4,7 @@ use Rattle.std.proofs.lemmas.List.{append-nil, append_assoc, length-append, take
 use Rattle.std.proofs.lemmas.Bool.{and_from, and_parts, or_from, or_parts, cond-true, lt-ltb, lt-leb, le-ltb, eqb-true, eqb-false, ltb-true}
 use Rattle.rows.specs.Rows.{RowData, Meaning, Verdict}
 use Rattle.rows.specs.Laws.{Laws, Accepted}
-use Rattle.rows.specs.Bytes.{count_byte, head_length, lettered, counted, long_enough, marked, Layout, LaidOut, decode, encode, member_bytes, total_bytes}
+use Rattle.rows.specs.Bytes.{count_byte, head_length, lettered, counted, right_length, marked, Layout, LaidOut, decode, encode, member_bytes, total_bytes}
 use Rattle.rows.proofs.Layouts.{bytes_both_ways}
 use Rattle.writing.proofs.RowBytes.{row_same}
 use Rattle.search.specs.Limits.{most_rows, most_bytes}
@@ -54,7 +54,7 @@ module _ (m : Meaning) (L : Laws m) where
       let y = w.1 in
       let few : length rows < most_rows = omega (arith, H.limited.rows, length-append rows (r ∷ rest)) in
       let short : total_bytes rows + length (encode r) ≤ most_bytes = omega (arith, H.limited.bytes, total_append rows (r ∷ rest)) in
-      all_pass (lettered m (encode r)) (counted (encode r)) (long_enough m (encode r)) (marked (drop (head_length m (encode r)) (encode r))) (m.accepts (decode m (encode r)) (length voices))
+      all_pass (lettered m (encode r)) (counted (encode r)) (right_length m (encode r)) (marked (drop (head_length m (encode r)) (encode r))) (m.accepts (decode m (encode r)) (length voices))
       (leb most_rows (length rows) || ltb most_bytes (total_bytes rows + length (encode r)))
       y.letters y.counts y.long y.marks
       (ap (λ (x : RowData). m.accepts x (length voices)) w.2 ∙ accepted_at m rows r rest (length voices) H.all_accepted)

@@ -4,7 +4,7 @@ use Rattle.std.proofs.lemmas.List.{append-nil, append_assoc, length-append, leng
 use Rattle.std.proofs.lemmas.Bool.{not-false}
 use Rattle.rows.specs.Rows.{RowData, Meaning}
 use Rattle.rows.specs.Laws.{Laws}
-use Rattle.rows.specs.Bytes.{Bytes, head_length, lettered, counted, long_enough, marked, Layout, LaidOut, decode, encode}
+use Rattle.rows.specs.Bytes.{Bytes, head_length, lettered, counted, right_length, marked, Layout, LaidOut, decode, encode}
 use Rattle.rows.proofs.Layouts.{bytes_both_ways}
 use Rattle.writing.specs.WrittenRows.{written_row}
 use Rattle.writing.proofs.RowBytes.{row_same}
@@ -84,7 +84,7 @@ row_layout m t bs j =
     record {
       letters = not-false (lettered m bs) f.0;
       counts = not-false (counted bs) f.1.0;
-      long = not-false (long_enough m bs) f.1.1.0;
+      long = not-false (right_length m bs) f.1.1.0;
       marks = not-false (marked (drop (head_length m bs) bs)) f.1.1.1.0;
     }
 

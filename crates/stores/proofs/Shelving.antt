@@ -6,7 +6,7 @@ use Rattle.std.proofs.Math.Seq.{get_or-append_seam}
 use Rattle.std.specs.Str.{bytes_eq}
 use Rattle.sets.specs.Placings.{same}
 use Rattle.stores.specs.Stores.{member, Joined, Keeps, fits}
-use Rattle.stores.specs.Shelves.{hash_of, bucket, header, words_of, newest, entry, written, keys_in, shelved, recent, Whole, Leads, room_of, shelf_view}
+use Rattle.stores.specs.Shelves.{hash_of, bucket, header, words_of, newest, entry, written, keys_in, shelved, recent, Whole, Indexed, room_of, shelf_view}
 use Rattle.stores.specs.declared.store.Stored.TheVariants.{Kept}
 use Rattle.stores.proofs.Keeping.{Fitting, fitting}
 use Rattle.sets.proofs.Lists.{same_is}
@@ -321,15 +321,15 @@ walk_stops all n key at l r w h = record {
 -- ---- a key added
 
 -- the header that is written
-pub headed : (heads ws k : List ℕ) (hash : ℕ) → hash ≡ hash_of k → hash < 2 ^ 64 → Leads heads ws
+pub headed : (heads ws k : List ℕ) (hash : ℕ) → hash ≡ hash_of k → hash < 2 ^ 64 → Indexed heads ws
     → hash / 4294967296 * 4294967296 + get_or heads (hash / 18014398509481984) 0 * 65536 + length k ≡ header (newest (bucket k) (recent ws)) k
 headed heads ws k hash e r l =
     ap (λ (x : ℕ). hash / 4294967296 * 4294967296 + x * 65536 + length k) (l (hash / 18014398509481984) (omega arith))
     ∙ ap (λ (x : ℕ). x / 4294967296 * 4294967296 + newest (x / 18014398509481984) (recent ws) * 65536 + length k) e
 
-pub leads_push : (heads ws k : List ℕ) (hash : ℕ) → Whole ws → length k < 65536 → length heads ≡ 1024 → hash ≡ hash_of k → hash < 2 ^ 64 → Leads heads ws
-    → Leads (set heads (hash / 18014398509481984) (length ws + 1)) (ws ++ entry (recent ws) k)
-leads_push heads ws k hash w n long e r l b h = sym (ap (newest b) (recent_push ws k w n) ∙ by_bucket (eqb (bucket k) b) refl)
+pub indexed_push : (heads ws k : List ℕ) (hash : ℕ) → Whole ws → length k < 65536 → length heads ≡ 1024 → hash ≡ hash_of k → hash < 2 ^ 64 → Indexed heads ws
+    → Indexed (set heads (hash / 18014398509481984) (length ws + 1)) (ws ++ entry (recent ws) k)
+indexed_push heads ws k hash w n long e r l b h = sym (ap (newest b) (recent_push ws k w n) ∙ by_bucket (eqb (bucket k) b) refl)
   where
     at : hash / 18014398509481984 ≡ bucket k
     at = ap (λ (x : ℕ). x / 18014398509481984) e

@@ -67,8 +67,8 @@ abbrev pub Whole : List ℕ → Type 0
 Whole ws = written (recent ws) ≡ ws
 
 -- the heads tell where each bucket's newest key lies
-abbrev pub Leads : List ℕ → List ℕ → Type 0
-Leads heads ws = (b : ℕ) → b < 1024 → slice_index heads b ≡ newest b (recent ws)
+abbrev pub Indexed : List ℕ → List ℕ → Type 0
+Indexed heads ws = (b : ℕ) → b < 1024 → slice_index heads b ≡ newest b (recent ws)
 
 -- a shelf by the words that are used and how many may be
 abbrev pub shelf_view : List ℕ → ℕ → View

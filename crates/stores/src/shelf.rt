@@ -1,6 +1,6 @@
 // The store in lent memory.
 ghost use Rattle.std.specs.Prelude.{◌≡◌, ◌<◌, ◌≤◌, length, take};
-ghost use Rattle.stores.specs.Shelves.{room_of, Whole, Leads};
+ghost use Rattle.stores.specs.Shelves.{room_of, Whole, Indexed};
 
 pub mod ops;
 
@@ -17,5 +17,5 @@ pub struct Shelf<'a> {
     ghost within: { used ≤ room_of (length words.now) },
     ghost whole: { Whole (take used words.now) },
     ghost buckets: { length heads ≡ 1024 },
-    ghost leads: { Leads heads (take used words.now) },
+    ghost indexed: { Indexed heads (take used words.now) },
 }

@@ -21,7 +21,7 @@ pub loop-at-init : goal.loop-at-init
 loop-at-init c =
     let s = c.args.self.now in
     walk_begins (used_words s) c.args.key.now (get_or s.heads (c.args.hash / 18014398509481984) 0) s.whole
-    (s.leads (c.args.hash / 18014398509481984) (omega (arith, c.ranges.hash.fits)) ∙ ap (λ (x : ℕ). newest (x / 18014398509481984) (recent (used_words c.args.self.now))) c.requires)
+    (s.indexed (c.args.hash / 18014398509481984) (omega (arith, c.ranges.hash.fits)) ∙ ap (λ (x : ℕ). newest (x / 18014398509481984) (recent (used_words c.args.self.now))) c.requires)
 
 pub offset_bounds-self-at : goal.offset_bounds-self-at
 offset_bounds-self-at c =
