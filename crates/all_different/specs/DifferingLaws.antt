@@ -1,11 +1,11 @@
 -- The kind A keeps the laws.
-use Rattle.std.specs.Prelude.{◌≡◌, ℕ, suc, ◌^◌, ◌<◌, ◌≤◌, Bool, true, false, cond, not, ◌&&◌, ◌||◌, ◌≢◌, ◌⊎◌, List, [], ◌∷◌, ◌++◌, map, length, Ok, ◌==◌, count_ones, nat_eq, unsigned_abs, refl}
+use Rattle.std.specs.Prelude.{◌≡◌, ℕ, suc, ◌^◌, ◌<◌, ◌≤◌, Bool, true, false, cond, not, ◌&&◌, ◌||◌, ◌≢◌, ◌⊎◌, List, [], ◌∷◌, ◌++◌, map, length, ◌==◌, count_ones, nat_eq, unsigned_abs, refl}
 use Rattle.std.proofs.Common.{sym, ap, ap₂, ◌∙◌, subst, inl, inr, arith, lit≤, lit<}
 use Rattle.std.proofs.Math.Path.{fun_ext}
 use Rattle.std.proofs.Math.Dec.{eqb-suc-suc}
 use Rattle.std.proofs.lemmas.List.{get_or_append_left, length-map}
 use Rattle.std.proofs.lemmas.Bool.{eqb-true, eqb-false, ne_eqb, eq-eqb, cases_Bool, cases_eq, cases_lt, both_ways, and_parts, and_from, or_left, or_right, or_cases, not-true}
-use Rattle.rows.specs.Laws.{Laws}
+use Rattle.rows.specs.Laws.{Laws, Accepted}
 use Rattle.rows.specs.Rows.{alone, RowData}
 use Rattle.rows.specs.declared.member.Member.{Member}
 use Rattle.sets.specs.Placings.{some_empty, all_fixed, Proper, Within, Narrower, values}
@@ -16,7 +16,7 @@ use Rattle.narrowing.specs.Shared.{at, cuts, distinct, shaped, declared}
 use Rattle.rows.specs.declared.trace.Trace.TheVariants.{Settled, Open}
 use Rattle.sets.proofs.Membership.{has_mask, mask_below, has_above, has_none, has_least, same_sets, ones_less, ones_zero}
 use Rattle.narrowing.proofs.Cuts.{Each, all_each, each_map, each_both, none_each, any_same, all_same, map_same, Declared, Small, proper_small, fixed_place, cuts_small, cuts_narrower, cuts_within, cuts_more, cuts_nothing, squeezed, narrower_refl, narrower_trans}
-use Rattle.narrowing.proofs.Members.{lettered_by, shaped_by, verdict_parts, stays_verdict, accepted_members, at_more, fixed_value, value_below, Twins, twins, at_twins, same_mark, same_content, checks_by}
+use Rattle.narrowing.proofs.Members.{lettered_by, verdict_parts, stays_verdict, accepted_members, at_more, fixed_value, value_below, Twins, twins, at_twins, same_mark, same_content, checks_by}
 use Rattle.sets.proofs.Lists.{value_place}
 
 -- ---- lists whose elements differ
@@ -176,13 +176,13 @@ takes_nothing ms (m ∷ rest) s h f d e k =
 -- ---- the laws
 
 abbrev Fine : RowData → List ℕ → Type 0
-Fine r s = all_different.accepts r (length s) ≡ Ok tt
+Fine r s = Accepted (alone all_different) r (length s)
 
 members : (r : RowData) (s : List ℕ) → Fine r s → Declared (length s) r.members
-members r s a = accepted_members (shaped 0x41 1 r) (differing_rule r) r (length s) a
+members r s a = accepted_members (shaped 0x41 1 r) (differing_rule r) r (length s) a.yes
 
 apart : (r : RowData) (s : List ℕ) → Fine r s → distinct (map (λ m. m.voice) r.members) ≡ true
-apart r s a = (and_parts (list_all (λ m. nat_eq (unsigned_abs m.argument) 0) r.members) (distinct (map (λ m. m.voice) r.members)) (verdict_parts (shaped 0x41 1 r) (declared (length s) r) (differing_rule r) a).rule).1
+apart r s a = (and_parts (list_all (λ m. nat_eq (unsigned_abs m.argument) 0) r.members) (distinct (map (λ m. m.voice) r.members)) (verdict_parts (shaped 0x41 1 r) (declared (length s) r) (differing_rule r) a.yes).rule).1
 
 checks : (r : RowData) (s : List ℕ) → Fine r s → Proper s → all_fixed s ≡ true → distinct (map (at (values s)) r.members) ≡ false → some_empty (takes r.members r.members s) ≡ true
 checks r s a h f e =
@@ -265,15 +265,14 @@ projects s t p q ms w d e =
 pub all_different_lawful : Laws (alone all_different)
 all_different_lawful = record {
   lettered = lettered_by all_different refl (lit≤ tt) (lit≤ tt);
-  shaped = λ r n a. shaped_by all_different r (verdict_parts (shaped 0x41 1 r) (declared n r) (differing_rule r) a).shape;
   narrows = λ r s a h. takes_narrower r.members r.members s;
   sound = λ r s p a h w e. takes_within p r.members r.members s (proper_small s h) w (members r s a) (distinct_tied (at p) (λ m. m.voice) r.members e);
   checks = checks;
   projects = λ r s t p q a hs ht k e ws wt g. projects s t p q r.members (twins s t p q hs ht k ws wt g) (members r s a) e;
-  stays = λ r n k a. stays_verdict (shaped 0x41 1 r) (differing_rule r) r n k a;
-  holds_more = λ r p q a. ap distinct (map_same (at (p ++ q)) (at p) r.members (at_more r.members p q (members r p a)));
-  turn_more = λ r s t a. takes_more r.members r.members s t (members r s a) (members r s a);
-  trace_more = λ r s t a.
+  stays = λ r n k a. record { shape = a.shape; yes = stays_verdict (shaped 0x41 1 r) (differing_rule r) r n k a.yes };
+  holds_more = λ r p q a _. ap distinct (map_same (at (p ++ q)) (at p) r.members (at_more r.members p q (members r p a)));
+  turn_more = λ r s t a _. takes_more r.members r.members s t (members r s a) (members r s a);
+  trace_more = λ r s t a _.
       let same = at_more r.members s t (members r s a) in
       ap₂ (λ (b : Bool) (c : ℕ). cond b Settled (Open c))
       (ap₂ ◌&&◌ (all_same (λ m. fixed (at (s ++ t) m)) (λ m. fixed (at s m)) r.members (each_map (λ m. at (s ++ t) m ≡ at s m) (λ m. fixed (at (s ++ t) m) ≡ fixed (at s m)) r.members (λ m e. ap fixed e) same))

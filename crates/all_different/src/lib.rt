@@ -6,6 +6,7 @@ ghost use Rattle.sets.specs.Sets.{has, mask};
 ghost use Rattle.sets.specs.Placings.{changed};
 ghost use Rattle.std.specs.List.{list_all, list_any, count_by};
 ghost use Rattle.narrowing.specs.Shared.{at, cuts, distinct};
+ghost use Rattle.rows.specs.Views.{row_of};
 ghost use Rattle.all_different.specs.Differing.{spares, used, all_different};
 ghost use Rattle.all_different.specs.DifferingLaws.{all_different_lawful};
 
@@ -114,7 +115,10 @@ impl Kind for AllDifferent {
     }
 
     // Each member in order, if it is fixed by then, takes its value out of every other member's set.
-    fn turn(row: &Row, sets: &mut [ValueSet]) -> bool {
+    fn turn(row: &Row, sets: &mut [ValueSet]) -> bool
+        ensures after { sets.new ≡ all_different.turn (row_of row.now) sets.old }
+        ensures value { result ≡ changed sets.new sets.old }
+    {
         let members = row.members();
         let (shared, placed) = shared_and_placed(members, sets);
         // no fixed member's value is in another's set: nothing is taken, and so no more become fixed

@@ -1,8 +1,8 @@
 -- The kind C keeps the laws.
-use Rattle.std.specs.Prelude.{◌≡◌, ℕ, zero, suc, ◌^◌, ◌<◌, ◌≤◌, Bool, true, false, cond, not, ◌⊎◌, List, [], ◌∷◌, ◌++◌, length, take, Ok, ◌==◌, nat_eq, refl}
+use Rattle.std.specs.Prelude.{◌≡◌, ℕ, zero, suc, ◌^◌, ◌<◌, ◌≤◌, Bool, true, false, cond, not, ◌⊎◌, List, [], ◌∷◌, ◌++◌, length, take, ◌==◌, nat_eq, refl}
 use Rattle.std.proofs.Common.{sym, ap, ap₂, ◌∙◌, subst, inl, inr, arith, lit≤}
 use Rattle.std.proofs.lemmas.Bool.{eqb-true, ne_eqb, cases_Bool, both_ways, and_from, or_left, or_right, or_cases, not-true, not-false}
-use Rattle.rows.specs.Laws.{Laws}
+use Rattle.rows.specs.Laws.{Laws, Accepted}
 use Rattle.rows.specs.Rows.{alone, RowData}
 use Rattle.rows.specs.declared.member.Member.{Member}
 use Rattle.sets.specs.Placings.{some_empty, all_fixed, Proper, Within, Narrower, values}
@@ -13,7 +13,7 @@ use Rattle.narrowing.specs.Shared.{at, shaped, declared}
 use Rattle.rows.specs.declared.trace.Trace.TheVariants.{Settled, Open}
 use Rattle.sets.proofs.Membership.{has_sift, has_none, has_below, has_least, sift_below, sift_part, fixed_member}
 use Rattle.narrowing.proofs.Cuts.{Each, each_map, each_both, none_each, any_same, Declared, Small, proper_small, fixed_place, cuts_small, cuts_narrower, cuts_within, cuts_more, cuts_nothing, narrower_refl}
-use Rattle.narrowing.proofs.Members.{lettered_by, shaped_by, verdict_parts, stays_verdict, accepted_members, shaped_long, at_more, Twins, twins, at_twins, same_mark, checks_by}
+use Rattle.narrowing.proofs.Members.{lettered_by, verdict_parts, stays_verdict, accepted_members, shaped_long, at_more, Twins, twins, at_twins, same_mark, checks_by}
 use Rattle.sets.proofs.Lists.{value_place}
 
 -- ---- the members that are chosen
@@ -113,10 +113,10 @@ abbrev true_in : List ℕ → Member → Bool
 true_in p m = says m (at p m)
 
 abbrev Fine : RowData → List ℕ → Type 0
-Fine r s = clause.accepts r (length s) ≡ Ok tt
+Fine r s = Accepted (alone clause) r (length s)
 
 members : (r : RowData) (s : List ℕ) → Fine r s → Declared (length s) r.members
-members r s a = accepted_members (shaped 0x43 1 r) (clause_rule r) r (length s) a
+members r s a = accepted_members (shaped 0x43 1 r) (clause_rule r) r (length s) a.yes
 
 sound : (r : RowData) (s p : List ℕ) → Fine r s → Proper s → Within p s → list_any (true_in p) r.members ≡ true → Within p (units (filter (live s) r.members) r.members s)
 sound r s p a h w e =
@@ -140,7 +140,7 @@ checks : (r : RowData) (s : List ℕ) → Fine r s → Proper s → all_fixed s 
 checks r s a h f e =
     let l = filter (live s) r.members in
     checks_by (units l r.members s) s (list_any (true_in (values s)) r.members) (units_small l r.members s (proper_small s h)) (proper_small s h) (units_narrower l r.members s) f
-    (λ k. elim (still s l r.members h f (shaped_long 0x43 1 r (verdict_parts (shaped 0x43 1 r) (declared (length s) r) (clause_rule r) a).shape).0 (members r s a) (filter_each (λ m. m.voice < length s) (live s) r.members (members r s a))
+    (λ k. elim (still s l r.members h f (shaped_long 0x43 1 r (verdict_parts (shaped 0x43 1 r) (declared (length s) r) (clause_rule r) a.yes).shape).0 (members r s a) (filter_each (λ m. m.voice < length s) (live s) r.members (members r s a))
     (filter_pass (live s) r.members) k) [ inl b ↦ filter_back (live s) (true_in (values s)) r.members b | inr b ↦ absurd b ]) e
 
 -- a certain literal is true in each placing within the sets
@@ -180,18 +180,17 @@ projects s t p q ms w d e =
 pub clause_lawful : Laws (alone clause)
 clause_lawful = record {
   lettered = lettered_by clause refl (lit≤ tt) (lit≤ tt);
-  shaped = λ r n a. shaped_by clause r (verdict_parts (shaped 0x43 1 r) (declared n r) (clause_rule r) a).shape;
   narrows = λ r s a h. units_narrower (filter (live s) r.members) r.members s;
   sound = sound;
   checks = checks;
   projects = λ r s t p q a hs ht k e ws wt g. projects s t p q r.members (twins s t p q hs ht k ws wt g) (members r s a) e;
-  stays = λ r n k a. stays_verdict (shaped 0x43 1 r) (clause_rule r) r n k a;
-  holds_more = λ r p q a. any_same (true_in (p ++ q)) (true_in p) r.members
+  stays = λ r n k a. record { shape = a.shape; yes = stays_verdict (shaped 0x43 1 r) (clause_rule r) r n k a.yes };
+  holds_more = λ r p q a _. any_same (true_in (p ++ q)) (true_in p) r.members
       (each_map (λ m. at (p ++ q) m ≡ at p m) (λ m. true_in (p ++ q) m ≡ true_in p m) r.members (λ m e. ap (says m) e) (at_more r.members p q (members r p a)));
-  turn_more = λ r s t a.
+  turn_more = λ r s t a _.
       ap (λ l. units l r.members (s ++ t)) (filter_same (live (s ++ t)) (live s) r.members
       (each_map (λ m. at (s ++ t) m ≡ at s m) (λ m. live (s ++ t) m ≡ live s m) r.members (λ m e. ap (λ (x : ℕ). not (sift (says m) x == 0)) e) (at_more r.members s t (members r s a))))
       ∙ units_more (filter (live s) r.members) r.members s t (filter_each (λ m. m.voice < length s) (live s) r.members (members r s a)) (members r s a);
-  trace_more = λ r s t a. ap (λ b. cond b Settled (Open 0)) (any_same (certain (s ++ t)) (certain s) r.members
+  trace_more = λ r s t a _. ap (λ b. cond b Settled (Open 0)) (any_same (certain (s ++ t)) (certain s) r.members
       (each_map (λ m. at (s ++ t) m ≡ at s m) (λ m. certain (s ++ t) m ≡ certain s m) r.members (λ m e. ap (λ (x : ℕ). nat_eq (sift (λ v. not (says m v)) x) 0) e) (at_more r.members s t (members r s a))));
 }

@@ -5,6 +5,7 @@ ghost use Rattle.std.specs.Prelude.{◌≡◌, refl, false, take, position};
 ghost use Rattle.sets.specs.Sets.{mask};
 ghost use Rattle.sets.specs.Placings.{changed};
 ghost use Rattle.std.specs.List.{list_all, list_any};
+ghost use Rattle.rows.specs.Views.{row_of};
 ghost use Rattle.narrowing.specs.Shared.{cuts};
 ghost use Rattle.clause.specs.Literals.{says, refuted, certain, stands, in_range, clause};
 ghost use Rattle.clause.specs.LiteralsLaws.{clause_lawful};
@@ -120,7 +121,10 @@ impl Kind for Clause {
     }
 
     // By the literals that are not refuted: where there are none, the first member's set becomes empty; the only one becomes true; several tell nothing.
-    fn turn(row: &Row, sets: &mut [ValueSet]) -> bool {
+    fn turn(row: &Row, sets: &mut [ValueSet]) -> bool
+        ensures after { sets.new ≡ clause.turn (row_of row.now) sets.old }
+        ensures value { result ≡ changed sets.new sets.old }
+    {
         let literals = row.members();
         let Some(first) = first_standing(literals, sets) else {
             return empty_first(literals, sets);

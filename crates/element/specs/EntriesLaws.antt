@@ -3,7 +3,7 @@ use Rattle.std.specs.Prelude.{◌≡◌, ℕ, zero, suc, ◌+◌, ◌<◌, ◌�
 use Rattle.std.proofs.Common.{sym, ap, ap₂, ◌∙◌, subst, inl, inr, le_of_suc-le-suc, arith, lit≤}
 use Rattle.std.proofs.lemmas.List.{get_or_append_left}
 use Rattle.std.proofs.lemmas.Bool.{eqb-true, ne_eqb, eq-eqb, cases_lt, and_parts, and_from, or_left, or_right, ltb-true, lt-ltb, le-ltb}
-use Rattle.rows.specs.Laws.{Laws}
+use Rattle.rows.specs.Laws.{Laws, Accepted}
 use Rattle.rows.specs.Rows.{alone, RowData}
 use Rattle.rows.specs.declared.member.Member.{Member}
 use Rattle.rows.specs.declared.trace.Trace.{Trace}
@@ -14,7 +14,7 @@ use Rattle.element.specs.Entries.{index, result_voice, entry, reached, indexed, 
 use Rattle.narrowing.specs.Shared.{cut, shaped}
 use Rattle.sets.proofs.Membership.{has_least, fixed_member}
 use Rattle.narrowing.proofs.Cuts.{Small, proper_small, fixed_place, cut_small, cut_narrower, cut_within, cut_more, cut_nothing, length_cut, squeezed, narrower_trans}
-use Rattle.narrowing.proofs.Members.{lettered_by, shaped_by, verdict_parts, parts_verdict, value_below, Twins, twins, BothFixed, BothOpen, at_twins, same_mark, checks_by}
+use Rattle.narrowing.proofs.Members.{lettered_by, verdict_parts, parts_verdict, value_below, Twins, twins, BothFixed, BothOpen, at_twins, same_mark, checks_by}
 use Rattle.sets.proofs.Lists.{value_place}
 
 -- ---- entries
@@ -49,7 +49,7 @@ meets_entry r i v h = elim (cases_lt i (length r.members)) [
 -- ---- the laws
 
 abbrev Fine : RowData → List ℕ → Type 0
-Fine r s = element.accepts r (length s) ≡ Ok tt
+Fine r s = Accepted (alone element) r (length s)
 
 two_voices : (r : RowData) (n : ℕ) → element.accepts r n ≡ Ok tt → (index r < n) × (result_voice r < n)
 two_voices r n a =
@@ -78,7 +78,7 @@ sound r s p a h w e =
     let v = slice_index_or p (result_voice r) 0 in
     let b = and_parts (nat_lt i (length r.members)) (v == entry r.members i) e in
     let here : v ≡ entry r.members i = eqb-true v (entry r.members i) b.1 in
-    let d = two_voices r (length s) a in
+    let d = two_voices r (length s) a.yes in
     let w1 : Within p (indexed r s) = cut_within p s (index r) (may_index r s) (proper_small s h) w
     (and_from (nat_lt i (length r.members)) (has (slice_index s (result_voice r)) (entry r.members i)) b.0 (ap (has (slice_index s (result_voice r))) (sym here) ∙ w.each (result_voice r) d.1)) in
     let l : index r < length (indexed r s) = subst (λ (n : ℕ). index r < n) (sym (length_cut (index r) (may_index r s) s)) d.0 in
@@ -89,7 +89,7 @@ checks : (r : RowData) (s : List ℕ) → Fine r s → Proper s → all_fixed s 
     → some_empty (resulted r (indexed r s)) ≡ true
 checks r s a h f e =
     let small = proper_small s h in
-    let d = two_voices r (length s) a in
+    let d = two_voices r (length s) a.yes in
     let x = slice_index_or s (index r) 0 in
     let y = slice_index_or s (result_voice r) 0 in
     checks_by (resulted r (indexed r s)) s (meets r (slice_index (values s) (index r)) (slice_index (values s) (result_voice r))) (small_turn r s small) small (narrows r s) f
@@ -143,7 +143,7 @@ stays r n k a =
 
 turn_more : (r : RowData) (s t : List ℕ) → Fine r s → resulted r (indexed r (s ++ t)) ≡ resulted r (indexed r s) ++ t
 turn_more r s t a =
-    let d = two_voices r (length s) a in
+    let d = two_voices r (length s) a.yes in
     let u = indexed r s in
     let long : length s ≡ length u = sym (length_cut (index r) (may_index r s) s) in
     let lx : index r < length u = subst (λ (n : ℕ). index r < n) long d.0 in
@@ -158,14 +158,13 @@ turn_more r s t a =
 pub element_lawful : Laws (alone element)
 element_lawful = record {
   lettered = lettered_by element refl (lit≤ tt) (lit≤ tt);
-  shaped = λ r n a. shaped_by element r (verdict_parts (shaped 0x45 3 r) (nat_lt (index r) n && nat_lt (result_voice r) n) (element_rule r) a).shape;
   narrows = λ r s a h. narrows r s;
   sound = sound;
   checks = checks;
-  projects = λ r s t p q a hs ht k e ws wt g. projects r s t p q (twins s t p q hs ht k ws wt g) (two_voices r (length s) a).0 (two_voices r (length s) a).1 e;
-  stays = stays;
-  holds_more = λ r p q a. ap₂ (meets r) (get_or_append_left p q 0 (index r) (two_voices r (length p) a).0) (get_or_append_left p q 0 (result_voice r) (two_voices r (length p) a).1);
-  turn_more = turn_more;
-  trace_more = λ r s t a. ap₂ (λ (x y : ℕ). element_trace r x y (fixed x) (fixed y))
-      (get_or_append_left s t 0 (index r) (two_voices r (length s) a).0) (get_or_append_left s t 0 (result_voice r) (two_voices r (length s) a).1);
+  projects = λ r s t p q a hs ht k e ws wt g. projects r s t p q (twins s t p q hs ht k ws wt g) (two_voices r (length s) a.yes).0 (two_voices r (length s) a.yes).1 e;
+  stays = λ r n k a. record { shape = a.shape; yes = stays r n k a.yes };
+  holds_more = λ r p q a _. ap₂ (meets r) (get_or_append_left p q 0 (index r) (two_voices r (length p) a.yes).0) (get_or_append_left p q 0 (result_voice r) (two_voices r (length p) a.yes).1);
+  turn_more = λ r s t a _. turn_more r s t a;
+  trace_more = λ r s t a _. ap₂ (λ (x y : ℕ). element_trace r x y (fixed x) (fixed y))
+      (get_or_append_left s t 0 (index r) (two_voices r (length s) a.yes).0) (get_or_append_left s t 0 (result_voice r) (two_voices r (length s) a.yes).1);
 }

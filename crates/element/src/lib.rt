@@ -5,6 +5,7 @@
 ghost use Rattle.std.specs.Prelude.{◌≡◌, refl, ◌&&◌, length, if◌then◌else◌, ◌==◌, nat_lt, unsigned_abs};
 ghost use Rattle.sets.specs.Sets.{has, mask, sift};
 ghost use Rattle.std.specs.List.{list_all};
+ghost use Rattle.sets.specs.Placings.{changed};
 ghost use Rattle.rows.specs.Views.{row_of};
 ghost use Rattle.element.specs.Entries.{index, result_voice, entry, reached, is_entry, element};
 ghost use Rattle.element.specs.EntriesLaws.{element_lawful};
@@ -123,7 +124,10 @@ impl Kind for Element {
         judge(shape, declared, rule)
     }
 
-    fn turn(row: &Row, sets: &mut [ValueSet]) -> bool {
+    fn turn(row: &Row, sets: &mut [ValueSet]) -> bool
+        ensures after { sets.new ≡ element.turn (row_of row.now) sets.old }
+        ensures value { result ≡ changed sets.new sets.old }
+    {
         let index = index_voice(row);
         let result = result_voice(row);
         let (kept, named) = matching(row.members(), set_of(sets, index), set_of(sets, result));

@@ -5,7 +5,7 @@ use Rattle.std.proofs.lemmas.Bool.{cases_lt, ne_eqb, eqb-false}
 use Rattle.sets.specs.Sets.{least, only}
 use Rattle.search.specs.Search.{Level, below}
 use Rattle.engine.specs.declared.level.LevelRecord.{LevelRecord}
-use Rattle.engine.specs.Levels.{no_record, level_at, first_levels, levels_at, is_none, newest_sets, without_newest, tried, Voiced}
+use Rattle.engine.specs.Levels.{no_record, level_at, first_levels, levels_at, is_none, is_spent, newest_sets, without_newest, tried, Voiced}
 
 -- ---- a stack with no level, and one with some
 
@@ -36,6 +36,11 @@ deep_below n trail records v = ⊎_elim
     (λ (h : 0 < length records). omega (arith, below_some n trail records h, (v (length records - 1) (omega arith)).0))
     (λ (h : length records ≤ 0). omega arith)
     (cases_lt 0 (length records))
+
+-- the newest level has a value left to try
+pub some_left : (n : ℕ) (trail : List ℕ) (records : List LevelRecord) → 0 < length records → is_spent (levels_at n trail records) ≡ false
+    → (get_or records (length records - 1) no_record).left ≢ 0
+some_left n trail records h e = eqb-false _ 0 (sym (ap is_spent (levels_some n trail records h)) ∙ e)
 
 -- ---- where the sets of a level lie
 

@@ -4,3 +4,4 @@ pub mod Leveled
 pub mod Backing
 pub mod Searching
 pub mod Stacked
+pub mod Filled

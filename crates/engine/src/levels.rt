@@ -1,5 +1,6 @@
 // The levels of a search, as a stack. The struct stands alone here, since the definitions name it.
 ghost use Rattle.std.specs.Prelude.{◌≡◌, ◌*◌, ◌≤◌, vec_items, vec_len, vec_capacity};
+ghost use Rattle.sets.specs.Placings.{Proper};
 ghost use Rattle.search.specs.Limits.{most_voices};
 ghost use Rattle.engine.specs.Levels.{Voiced};
 
@@ -26,4 +27,6 @@ pub struct Levels {
     ghost whole: { vec_len trail ≡ vec_len records * width },
     ghost deep: { vec_len records ≤ width },
     ghost voiced: { Voiced width (vec_items records) },
+    // no level has an empty set
+    ghost proper: { Proper (vec_items trail) },
 }

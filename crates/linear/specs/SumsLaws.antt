@@ -1,12 +1,12 @@
 -- The kind L keeps the laws.
-use Rattle.std.specs.Prelude.{◌≡◌, ℕ, zero, suc, ◌+◌, ◌*◌, ◌^◌, ◌<◌, ◌≤◌, Bool, true, false, cond, leb, List, [], ◌∷◌, ◌++◌, length, ℤ, pos, negsuc, ◌+ℤ◌, ◌-ℤ◌, ◌*ℤ◌, neg_ℤ, ◌≤ℤ◌, Ok, int_le, nat_le, unsigned_abs, refl}
+use Rattle.std.specs.Prelude.{◌≡◌, ℕ, zero, suc, ◌+◌, ◌*◌, ◌^◌, ◌<◌, ◌≤◌, Bool, true, false, cond, leb, List, [], ◌∷◌, ◌++◌, length, ℤ, pos, negsuc, ◌+ℤ◌, ◌-ℤ◌, ◌*ℤ◌, neg_ℤ, ◌≤ℤ◌, int_le, nat_le, unsigned_abs, refl}
 use Rattle.std.proofs.Common.{sym, ap, ap₂, ◌∙◌, subst, inl, inr, zero-le, le_trans, le_refl, arith, lit≤, le→leb}
 use Rattle.std.proofs.Math.IntN.{+ℤ_idl, +ℤ_idr}
 use Rattle.std.specs.Int.Signed.{non_neg, ≤ℤ_refl}
 use Rattle.std.proofs.lemmas.Int.{ints}
 use Rattle.std.proofs.lemmas.Nat.{mul-le}
 use Rattle.std.proofs.lemmas.Bool.{leb-true, cases_Bool, both_ways, and_parts}
-use Rattle.rows.specs.Laws.{Laws}
+use Rattle.rows.specs.Laws.{Laws, Accepted}
 use Rattle.rows.specs.Rows.{alone, RowData}
 use Rattle.rows.specs.declared.member.Member.{Member}
 use Rattle.sets.specs.Placings.{some_empty, all_fixed, Proper, Within, values}
@@ -17,7 +17,7 @@ use Rattle.rows.specs.declared.trace.Trace.TheVariants.{Settled, Open}
 use Rattle.linear.specs.Sums.{bound, total, term, low, high, within, linear, linear_rule}
 use Rattle.sets.proofs.Membership.{has_least, has_greatest, least_first, greatest_last, fixed_pos, fixed_member}
 use Rattle.narrowing.proofs.Cuts.{Each, all_each, each_map, each_both, Declared, Small, proper_small, fixed_place, cuts_small, cuts_narrower, cuts_within, cuts_more, cuts_nothing}
-use Rattle.narrowing.proofs.Members.{lettered_by, shaped_by, verdict_parts, stays_verdict, accepted_members, shaped_long, at_more, fixed_value, value_below, Twins, twins, at_twins, same_mark, same_content, checks_by}
+use Rattle.narrowing.proofs.Members.{lettered_by, verdict_parts, stays_verdict, accepted_members, shaped_long, at_more, fixed_value, value_below, Twins, twins, at_twins, same_mark, same_content, checks_by}
 use Rattle.sets.proofs.Lists.{value_place}
 
 -- ---- integers
@@ -142,17 +142,17 @@ abbrev open_part : List ℕ → List ℕ → Member → ℤ
 open_part s p m = cond (fixed (at s m)) (pos 0) (term m (at p m))
 
 abbrev Fine : RowData → List ℕ → Type 0
-Fine r s = linear.accepts r (length s) ≡ Ok tt
+Fine r s = Accepted (alone linear) r (length s)
 
 members : (r : RowData) (s : List ℕ) → Fine r s → Declared (length s) r.members
-members r s a = accepted_members (shaped 0x4C 5 r) (linear_rule r) r (length s) a
+members r s a = accepted_members (shaped 0x4C 5 r) (linear_rule r) r (length s) a.yes
 
 long : (r : RowData) (s : List ℕ) → Fine r s → (1 ≤ length r.members) × (length r.members ≤ 32)
-long r s a = shaped_long 0x4C 5 r (verdict_parts (shaped 0x4C 5 r) (declared (length s) r) (linear_rule r) a).shape
+long r s a = shaped_long 0x4C 5 r (verdict_parts (shaped 0x4C 5 r) (declared (length s) r) (linear_rule r) a.yes).shape
 
 coefficients : (r : RowData) (s : List ℕ) → Fine r s → Each (λ m. nat_le (unsigned_abs m.argument) 1000 ≡ true) r.members
 coefficients r s a = all_each (λ m. leb (unsigned_abs m.argument) 1000) r.members
-    (and_parts (nat_le (unsigned_abs (bound r)) 3000000) (list_all (λ m. leb (unsigned_abs m.argument) 1000) r.members) (verdict_parts (shaped 0x4C 5 r) (declared (length s) r) (linear_rule r) a).rule).1
+    (and_parts (nat_le (unsigned_abs (bound r)) 3000000) (list_all (λ m. leb (unsigned_abs m.argument) 1000) r.members) (verdict_parts (shaped 0x4C 5 r) (declared (length s) r) (linear_rule r) a.yes).rule).1
 
 lows : (s p : List ℕ) (ms : List Member) → Small s → Within p s → Declared (length s) ms → Each (λ m. low s m ≤ℤ value_of p m) ms
 lows s p ms h w d = each_map (λ m. m.voice < length s) (λ m. low s m ≤ℤ value_of p m) ms (λ m l. low_le s m (at p m) h (w.each m.voice l)) d
@@ -274,14 +274,13 @@ turn_more r s t a =
 pub linear_lawful : Laws (alone linear)
 linear_lawful = record {
   lettered = lettered_by linear refl (lit≤ tt) (lit≤ tt);
-  shaped = λ r n a. shaped_by linear r (verdict_parts (shaped 0x4C 5 r) (declared n r) (linear_rule r) a).shape;
   narrows = λ r s a h. cuts_narrower (within r s) r.members s;
   sound = sound;
   checks = checks;
   projects = λ r s t p q a hs ht k e ws wt g. projects r s t p q a (twins s t p q hs ht k ws wt g) e;
-  stays = λ r n k a. stays_verdict (shaped 0x4C 5 r) (linear_rule r) r n k a;
-  holds_more = λ r p q a. ap (λ (x : ℤ). int_le x (bound r)) (same_total term r.members p q (members r p a));
-  turn_more = turn_more;
-  trace_more = λ r s t a. ap₂ (λ (x y : ℤ). cond (int_le x (bound r)) Settled (Open (unsigned_abs (y +ℤ pos 4000000))))
+  stays = λ r n k a. record { shape = a.shape; yes = stays_verdict (shaped 0x4C 5 r) (linear_rule r) r n k a.yes };
+  holds_more = λ r p q a _. ap (λ (x : ℤ). int_le x (bound r)) (same_total term r.members p q (members r p a));
+  turn_more = λ r s t a _. turn_more r s t a;
+  trace_more = λ r s t a _. ap₂ (λ (x y : ℤ). cond (int_le x (bound r)) Settled (Open (unsigned_abs (y +ℤ pos 4000000))))
       (same_total high_by r.members s t (members r s a)) (same_total (λ m x. cond (fixed x) (term m (least x)) (pos 0)) r.members s t (members r s a));
 }

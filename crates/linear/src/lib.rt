@@ -192,7 +192,10 @@ impl Kind for Linear {
 
     // The least terms are those of the sets at the start of the turn: what it takes for one member does not count for the next, though a voice may
     // stand twice.
-    fn turn(row: &Row, sets: &mut [ValueSet]) -> bool {
+    fn turn(row: &Row, sets: &mut [ValueSet]) -> bool
+        ensures after { sets.new ≡ linear.turn (row_of row.now) sets.old }
+        ensures value { result ≡ changed sets.new sets.old }
+    {
         let (lows, sum, widest) = lowest_terms(row, sets);
         let spare = bound(row) - sum;
         // no member's greatest passes its slack: nothing has to go

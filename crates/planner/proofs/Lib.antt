@@ -1,3 +1,4 @@
 pub mod Calling
 pub mod Judging
 pub mod Posting
+pub mod Readying

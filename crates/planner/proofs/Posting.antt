@@ -64,6 +64,14 @@ all_right true true false d x y e = never WrongLength y (sym e)
 all_right true true true false x y e = never UnmarkedMember y (sym e)
 all_right true true true true x y e = (refl, refl, refl, refl)
 
+all_yes : (a b c d : Bool) (x : Verdict) (y : Unit {0}) → Ok y ≡ answered a b c d x → x ≡ Ok tt
+all_yes false b c d x y e = never UnknownLetter y (sym e)
+all_yes true false c d x y e = never BadCount y (sym e)
+all_yes true true false d x y e = never WrongLength y (sym e)
+all_yes true true true false x y e = never UnmarkedMember y (sym e)
+all_yes true true true true (Ok z) y e = refl
+all_yes true true true true (Err f) y e = never (Declined f) y (sym e)
+
 -- no row more has room
 abbrev pub full_for : List RowData → ℕ → Bool
 full_for rows bytes = leb most_rows (length rows) || ltb most_bytes (total_bytes rows + bytes)
@@ -87,6 +95,9 @@ pub laid_out : (m : Meaning) (bs : List ℕ) (n : ℕ) (y : Unit {0}) → Ok y �
 laid_out m bs n y e =
     let r = all_right (lettered m bs) (counted bs) (right_length m bs) (marked (drop (head_length m bs) bs)) (m.accepts (decode m bs) n) y e in
     record { letters = r.0; counts = r.1; long = r.2; marks = r.3 }
+
+pub verdict_yes : (m : Meaning) (bs : List ℕ) (n : ℕ) (y : Unit {0}) → Ok y ≡ row_verdict m bs n → m.accepts (decode m bs) n ≡ Ok tt
+verdict_yes m bs n y e = all_yes (lettered m bs) (counted bs) (right_length m bs) (marked (drop (head_length m bs) bs)) (m.accepts (decode m bs) n) y e
 
 -- ---- the room
 

@@ -1,8 +1,9 @@
 // A table. The struct stands alone here, since the definitions name it.
-ghost use Rattle.std.specs.Prelude.{◌≡◌, ◌<◌, ◌≤◌, take, vec_len, vec_capacity};
+ghost use Rattle.std.specs.Prelude.{◌≡◌, ◌<◌, ◌≤◌, take, vec_items, vec_len, vec_capacity};
 ghost use Rattle.rows.specs.Bytes.{total_bytes};
 ghost use Rattle.rows.specs.Views.{rows_of};
 ghost use Rattle.search.specs.Limits.{most_voices, most_rows, most_bytes};
+ghost use Rattle.search.specs.Placed.{Ready, ready_once};
 ghost use Rattle.engine.specs.Searches.{voice_count};
 
 use engine::state::Search;
@@ -47,4 +48,6 @@ pub struct Table<B: Bank, S: Store> {
     ghost spare: { most_rows < vec_len rows },
     ghost short: { bytes ≤ most_bytes },
     ghost weighed: { total_bytes (rows_of (take posted rows.items)) ≡ bytes },
+    // the bank accepts each row with as many voices as there are, and no opening set is empty
+    ghost ready: { Ready B.Bank.meaning (rows_of (take posted rows.items)) (vec_items voices) } by { ready_once B.Bank.meaning (rows_of (take posted rows.items)) (vec_items voices) },
 }

@@ -1,7 +1,7 @@
 -- The laws that every bank keeps. Code above a bank rests on them and on nothing else of its kinds.
 use Rattle.std.specs.Prelude.{◌≡◌, ℕ, ◌+◌, ◌≤◌, Bool, true, false, ◌||◌, List, ◌++◌, length, Ok, ◌==◌, slice_index}
 use Rattle.sets.specs.Sets.{fixed}
-use Rattle.sets.specs.Placings.{some_empty, all_fixed, values, Proper, Within, Narrower}
+use Rattle.sets.specs.Placings.{some_empty, all_fixed, values, Proper, Placing, Within, Narrower}
 use Rattle.rows.specs.Rows.{RowData, Meaning, count}
 
 -- a letter that no kind may have: a sheet's V and Z, and a member's M
@@ -14,7 +14,7 @@ pub record Lettered (m : Meaning) (l : ℕ) : Type 0 where
   pub some_body : 1 ≤ m.body_length l
   pub short_body : m.body_length l ≤ 16
 
--- the shape of an accepted row: a letter that the bank knows, its body length, a count from 1 to 32 and that many members
+-- the shape of a row: a letter that the bank knows, its body length, a count from 1 to 32 and that many members
 pub record Shaped (m : Meaning) (r : RowData) : Type 0 where
   pub known_letter : m.known r.letter ≡ true
   pub long_body : length r.body ≡ m.body_length r.letter
@@ -22,9 +22,10 @@ pub record Shaped (m : Meaning) (r : RowData) : Type 0 where
   pub some_members : 1 ≤ count r
   pub few_members : count r ≤ 32
 
--- the bank accepts the row with n voices
-abbrev pub Accepted : Meaning → RowData → ℕ → Type 0
-Accepted m r n = m.accepts r n ≡ Ok tt
+-- it is a row by its shape, and the bank, asked with n voices, says yes; what it says to data of another shape is left to it
+pub record Accepted (m : Meaning) (r : RowData) (n : ℕ) : Type 0 where
+  pub shape : Shaped m r
+  pub yes : m.accepts r n ≡ Ok tt
 
 -- two lists of sets with the same fixed voices, at values that may differ, and equal sets elsewhere
 pub record Alike (s t : List ℕ) : Type 0 where
@@ -41,8 +42,6 @@ Agree s p q = (i : ℕ) → fixed (slice_index s i) ≡ false → slice_index p 
 pub record Laws (m : Meaning) : Type 0 where
   -- no letter is barred, and a body has 1 to 16 bytes
   pub lettered : (l : ℕ) → m.known l ≡ true → Lettered m l
-  -- an accepted row has the shape that its letter asks
-  pub shaped : (r : RowData) (n : ℕ) → Accepted m r n → Shaped m r
   -- a turn only takes values out
   pub narrows : (r : RowData) (s : List ℕ) → Accepted m r (length s) → Proper s → Narrower (m.turn r s) s
   -- and none that a placing uses for which the row holds
@@ -54,6 +53,6 @@ pub record Laws (m : Meaning) : Type 0 where
       → Within p s → Within q t → Agree s p q → m.holds r p ≡ m.holds r q
   -- an accepted row stays acceptable with more voices, and those never matter to it
   pub stays : (r : RowData) (n k : ℕ) → Accepted m r n → Accepted m r (n + k)
-  pub holds_more : (r : RowData) (p q : List ℕ) → Accepted m r (length p) → m.holds r (p ++ q) ≡ m.holds r p
-  pub turn_more : (r : RowData) (s t : List ℕ) → Accepted m r (length s) → m.turn r (s ++ t) ≡ m.turn r s ++ t
-  pub trace_more : (r : RowData) (s t : List ℕ) → Accepted m r (length s) → m.trace r (s ++ t) ≡ m.trace r s
+  pub holds_more : (r : RowData) (p q : List ℕ) → Accepted m r (length p) → Placing (p ++ q) → m.holds r (p ++ q) ≡ m.holds r p
+  pub turn_more : (r : RowData) (s t : List ℕ) → Accepted m r (length s) → Proper (s ++ t) → m.turn r (s ++ t) ≡ m.turn r s ++ t
+  pub trace_more : (r : RowData) (s t : List ℕ) → Accepted m r (length s) → Proper (s ++ t) → m.trace r (s ++ t) ≡ m.trace r s

@@ -1,8 +1,7 @@
 -- Two lawful banks side by side are a lawful bank.
-use Rattle.std.specs.Prelude.{◌≡◌, ℕ, Bool, true, false, cond, ◌||◌, refl}
-use Rattle.std.proofs.lemmas.Bool.{or_left, or_right}
+use Rattle.std.specs.Prelude.{◌≡◌, ℕ, Bool, true, false, cond, ◌||◌, length, refl}
 use Rattle.rows.specs.Rows.{RowData, Meaning, with_letter, beside}
-use Rattle.rows.specs.Laws.{Laws, Lettered, Shaped, Accepted}
+use Rattle.rows.specs.Laws.{Laws, Lettered, Accepted}
 
 either : (k : Bool) (a b : Meaning) → Laws a → Laws b → Laws (cond k a b)
 either true a b x y = x
@@ -13,23 +12,30 @@ first_knows : (a b : Meaning) (l : ℕ) (k : Bool) → a.known l ≡ k → (k ||
 first_knows a b l true e h = e
 first_knows a b l false e h = h
 
--- and what it knows, the two know
-either_knows : (a b : Meaning) (l : ℕ) (k : Bool) → a.known l ≡ k → (cond k a b).known l ≡ true → (a.known l || b.known l) ≡ true
-either_knows a b l true e h = or_left (a.known l) (b.known l) e
-either_knows a b l false e h = or_right (a.known l) (b.known l) h
+-- a row that the two accept is accepted by the one that it goes to
+pub accepted_by_one : (a b : Meaning) (r : RowData) (n : ℕ) → Accepted (beside a b) r n → Accepted (with_letter a b r.letter) r n
+accepted_by_one a b r n h = record {
+  shape = record {
+    known_letter = first_knows a b r.letter (a.known r.letter) refl h.shape.known_letter;
+    long_body = h.shape.long_body;
+    counted = h.shape.counted;
+    some_members = h.shape.some_members;
+    few_members = h.shape.few_members;
+  };
+  yes = h.yes;
+}
 
 pub beside_lawful : (a b : Meaning) → Laws a → Laws b → Laws (beside a b)
 beside_lawful a b x y = record {
   lettered = letters;
-  shaped = shapes;
-  narrows = λ r. (here r).narrows r;
-  sound = λ r. (here r).sound r;
-  checks = λ r. (here r).checks r;
-  projects = λ r. (here r).projects r;
-  stays = λ r. (here r).stays r;
-  holds_more = λ r. (here r).holds_more r;
-  turn_more = λ r. (here r).turn_more r;
-  trace_more = λ r. (here r).trace_more r;
+  narrows = λ r s h. (here r).narrows r s (accepted_by_one a b r (length s) h);
+  sound = λ r s p h. (here r).sound r s p (accepted_by_one a b r (length s) h);
+  checks = λ r s h. (here r).checks r s (accepted_by_one a b r (length s) h);
+  projects = λ r s t p q h. (here r).projects r s t p q (accepted_by_one a b r (length s) h);
+  stays = λ r n k h. record { shape = h.shape; yes = ((here r).stays r n k (accepted_by_one a b r n h)).yes };
+  holds_more = λ r p q h. (here r).holds_more r p q (accepted_by_one a b r (length p) h);
+  turn_more = λ r s t h. (here r).turn_more r s t (accepted_by_one a b r (length s) h);
+  trace_more = λ r s t h. (here r).trace_more r s t (accepted_by_one a b r (length s) h);
 }
   where
     here : (r : RowData) → Laws (with_letter a b r.letter)
@@ -39,14 +45,3 @@ beside_lawful a b x y = record {
     letters l h =
         let z = (either (a.known l) a b x y).lettered l (first_knows a b l (a.known l) refl h) in
         record { free = z.free; some_body = z.some_body; short_body = z.short_body }
-
-    shapes : (r : RowData) (n : ℕ) → Accepted (with_letter a b r.letter) r n → Shaped (beside a b) r
-    shapes r n h =
-        let z = (here r).shaped r n h in
-        record {
-          known_letter = either_knows a b r.letter (a.known r.letter) refl z.known_letter;
-          long_body = z.long_body;
-          counted = z.counted;
-          some_members = z.some_members;
-          few_members = z.few_members;
-        }

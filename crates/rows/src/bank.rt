@@ -1,8 +1,8 @@
 // A bank of row kinds: one kind, or two banks side by side.
-ghost use Rattle.std.specs.Prelude.{◌≡◌, if◌then◌else◌, Some, None};
-ghost use Rattle.sets.specs.Placings.{changed};
+ghost use Rattle.std.specs.Prelude.{◌≡◌, if◌then◌else◌, Some, None, length};
+ghost use Rattle.sets.specs.Placings.{changed, Proper};
 ghost use Rattle.rows.specs.Rows.{Meaning, alone, beside};
-ghost use Rattle.rows.specs.Laws.{Laws};
+ghost use Rattle.rows.specs.Laws.{Laws, Accepted};
 ghost use Rattle.rows.specs.Views.{row_of};
 ghost use Rattle.rows.specs.SideBySide.{beside_lawful};
 
@@ -25,10 +25,10 @@ pub trait Bank {
     fn accept(row: &Row, voices: usize) -> Result<(), Fault>
         ensures { result ≡ meaning.accepts (row_of row.now) voices };
 
-    // Takes values out of the sets that no placing needs for which the row holds, and says whether it took one.
+    // Takes values out of the sets that no placing needs for which the row holds; and where the row is accepted and no set is empty, it says whether it took one.
     fn turn(row: &Row, sets: &mut [ValueSet]) -> bool
         ensures after { sets.new ≡ meaning.turn (row_of row.now) sets.old }
-        ensures value { result ≡ changed sets.new sets.old };
+        ensures value { Accepted meaning (row_of row.now) (length sets.old) → Proper sets.old → result ≡ changed sets.new sets.old };
 
     // What the fixed voices leave of the row.
     fn trace(row: &Row, sets: &[ValueSet]) -> Trace

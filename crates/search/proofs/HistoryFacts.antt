@@ -1,12 +1,13 @@
 -- Every history of calls keeps the invariant, and so the laws stand after it.
-use Rattle.std.proofs.Common.{◌≡◌, ℕ, ◌+◌, ◌*◌, ◌^◌, ◌<◌, ◌≤◌, Bool, true, false, List, [], ◌∷◌, ◌++◌, length, Ok, Err, sym, refl, ap, subst, inl, inr, arith}
-use Rattle.std.proofs.lemmas.Bool.{both_ways, cases_lt, eqb-false}
+use Rattle.std.proofs.Common.{◌≡◌, ℕ, ◌+◌, ◌*◌, ◌^◌, ◌<◌, ◌≤◌, Bool, true, false, List, [], ◌∷◌, ◌++◌, length, drop, Ok, Err, sym, refl, ap, subst, inl, inr, arith}
+use Rattle.std.proofs.lemmas.Bool.{both_ways, cases_lt, eqb-false, not-false}
 use Rattle.std.proofs.lemmas.List.{length_push, get_or_push, get_or_append_left}
 use Rattle.rows.specs.declared.fault.Fault.TheVariants.{Undeclared, RuleBroken}
 use Rattle.sets.specs.Placings.{Proper}
 use Rattle.rows.specs.Rows.{RowData, Meaning, Verdict}
 use Rattle.rows.specs.Laws.{Laws, Accepted}
-use Rattle.rows.specs.Bytes.{decode}
+use Rattle.rows.specs.Bytes.{Bytes, Layout, head_length, lettered, counted, right_length, marked, decode}
+use Rattle.rows.proofs.Layouts.{bytes_both_ways}
 use Rattle.stores.specs.Stores.{member, View}
 use Rattle.search.specs.Search.{Place}
 use Rattle.search.specs.Calls.{Table, Call, Answer, Formed, Judgement, reasons, judge, judged, declined_under, Goes, Does, empty}
@@ -37,11 +38,11 @@ proper_push voices s a b p i l =
       | inr h ↦ subst (λ (x : ℕ). (0 < x) × (x < 2 ^ 64)) (sym (get_or_push voices s 0 i (omega (arith, length_push voices s)))) (a, b)
     ]
 
-okay_more : (m : Meaning) (L : Laws m) (rows : List RowData) (n : ℕ) → AllAccepted m rows n → AllAccepted m rows (n + 1)
+pub okay_more : (m : Meaning) (L : Laws m) (rows : List RowData) (n : ℕ) → AllAccepted m rows n → AllAccepted m rows (n + 1)
 okay_more m L [] n o = tt
 okay_more m L (r ∷ rows) n o = (L.stays r n 1 o.0, okay_more m L rows n o.1)
 
-okay_push : (m : Meaning) (rows : List RowData) (r : RowData) (n : ℕ) → Accepted m r n → AllAccepted m rows n → AllAccepted m (rows ++ (r ∷ [])) n
+pub okay_push : (m : Meaning) (rows : List RowData) (r : RowData) (n : ℕ) → Accepted m r n → AllAccepted m rows n → AllAccepted m (rows ++ (r ∷ [])) n
 okay_push m [] r n a o = (a, tt)
 okay_push m (x ∷ rows) r n a o = (o.0, okay_push m rows r n a o.1)
 
@@ -72,10 +73,20 @@ verdict (Err RuleBroken) a b = absurd (both_ways true b refl)
 pub declared_set : (m : Meaning) (t : Table) (s : ℕ) → judged m t (declare s) ≡ Judgement.passes → 0 < s
 declared_set m t s j = omega (arith, eqb-false s 0 (none_fits (reasons m t (declare s)) j).0)
 
-posted_row : (m : Meaning) (t : Table) (bs : List ℕ) → judged m t (post bs) ≡ Judgement.passes → Accepted m (decode m bs) (length t.voices)
-posted_row m t bs j =
+pub layout : (m : Meaning) (t : Table) (bs : List ℕ) → judged m t (post bs) ≡ Judgement.passes → Layout m bs
+layout m t bs j =
+    let f = none_fits (reasons m t (post bs)) j in
+    record {
+      letters = not-false (lettered m bs) f.0;
+      counts = not-false (counted bs) f.1.0;
+      long = not-false (right_length m bs) f.1.1.0;
+      marks = not-false (marked (drop (head_length m bs) bs)) f.1.1.1.0;
+    }
+
+posted_row : (m : Meaning) (t : Table) (bs : List ℕ) → judged m t (post bs) ≡ Judgement.passes → Bytes bs → Accepted m (decode m bs) (length t.voices)
+posted_row m t bs j b =
     let f = (none_fits (reasons m t (post bs)) j).1.1.1.1 in
-    verdict (m.accepts (decode m bs) (length t.voices)) f.0 f.1.0
+    record { shape = ((bytes_both_ways m).1 bs b (layout m t bs j)).0.shape; yes = verdict (m.accepts (decode m bs) (length t.voices)) f.0 f.1.0 }
 
 module _ (m : Meaning) (L : Laws m) where
   pub goes : {b : ℕ} {t : Table} {v : View} {u : Table} {w : View} → Goes m b t v u w → Fit m t v → Fit m u w
@@ -97,7 +108,7 @@ module _ (m : Meaning) (L : Laws m) where
   }
   does {t} (Does.posts bs w j e) o f = record {
     proper = f.proper;
-    okay = okay_push m t.rows (decode m bs) (length t.voices) (posted_row m t bs j) f.okay;
+    okay = okay_push m t.rows (decode m bs) (length t.voices) (posted_row m t bs j o) f.okay;
     stage = refl;
     store = empty_store m (t.rows ++ (decode m bs ∷ [])) (length t.voices) w e.empty.none;
   }

@@ -12,7 +12,7 @@ use Rattle.search.specs.Calls.{Table, Call, Answer, Formed, Judgement, reasons, 
 use Rattle.search.specs.Calls.Call.{declare, post, solve}
 use Rattle.search.specs.Histories.{History}
 use Rattle.search.specs.Results.{AllLaidOut, Limited}
-use Rattle.search.proofs.HistoryFacts.{none_fits, proper_push, declared_set}
+use Rattle.search.proofs.HistoryFacts.{none_fits, layout, proper_push, declared_set}
 use Rattle.search.proofs.AnswerFacts.{goes_kept, solve_keeps_budget}
 
 total_push : (rows : List RowData) (r : RowData) → total_bytes (rows ++ (r ∷ [])) ≡ total_bytes rows + length (encode r)
@@ -22,16 +22,6 @@ total_push (x ∷ rows) r = omega (arith, total_push rows r)
 laid_out_push : (m : Meaning) (rows : List RowData) (r : RowData) → AllLaidOut m rows → LaidOut m r → AllLaidOut m (rows ++ (r ∷ []))
 laid_out_push m [] r a o = (o, tt)
 laid_out_push m (x ∷ rows) r a o = (a.0, laid_out_push m rows r a.1 o)
-
-layout : (m : Meaning) (t : Table) (bs : List ℕ) → judged m t (post bs) ≡ Judgement.passes → Layout m bs
-layout m t bs j =
-    let f = none_fits (reasons m t (post bs)) j in
-    record {
-      letters = not-false (lettered m bs) f.0;
-      counts = not-false (counted bs) f.1.0;
-      long = not-false (right_length m bs) f.1.1.0;
-      marks = not-false (marked (drop (head_length m bs) bs)) f.1.1.1.0;
-    }
 
 module _ (m : Meaning) where
   none_yet : Limited m empty

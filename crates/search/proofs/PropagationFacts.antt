@@ -6,7 +6,7 @@ use Rattle.std.specs.List.{list_all}
 use Rattle.rows.specs.Rows.{RowData, Meaning}
 use Rattle.rows.specs.Laws.{Laws, Accepted}
 use Rattle.search.specs.Propagation.{Round, round_from, round, rounds, propagated, size}
-use Rattle.search.specs.Placed.{AllAccepted, AllHold, Lawful}
+use Rattle.search.specs.Placed.{AllAccepted, Ready, AllHold, Lawful}
 use Rattle.search.specs.Results.{Stable, Propagates}
 use Rattle.search.proofs.Boxes.{narrow_trans, narrow_refl, proper_narrow, proper_full, proper_words, size_le, size_same, size_most, within_narrow, values_only}
 use Rattle.sets.proofs.Lists.{same_self, same_is, values_within}
@@ -178,6 +178,21 @@ module _ (m : Meaning) (L : Laws m) (n : ℕ) where
             ∙ rounds_enough rows k j t ((round_ok rows false s e o p).narrowed.narrow.long ∙ e) o less.0 (omega (arith, less.1)) (omega (arith, less.1))
             ∙ sym (rounds_is m rows j s true a)
       ]
+
+-- ---- rows and sets that are ready
+
+-- after a turn that left no set empty
+pub turn_ready : (m : Meaning) → Laws m → (rows : List RowData) (r : RowData) (s : List ℕ) → Ready m rows s → Accepted m r (length s) → some_empty (m.turn r s) ≡ false
+    → Ready m rows (m.turn r s)
+turn_ready m L rows r s h a e =
+    let less = L.narrows r s a h.proper in
+    record { accepted = subst (AllAccepted m rows) (sym less.long) h.accepted; proper = proper_narrow (m.turn r s) s less h.proper e }
+
+-- and after a round that has another after it
+pub round_ready : (m : Meaning) → Laws m → (rows : List RowData) (s : List ℕ) → Ready m rows s → (round m rows s).again ≡ true → Ready m rows (round m rows s).sets
+round_ready m L rows s h e =
+    let here = round_ok m L (length s) rows false s refl h.accepted h.proper in
+    record { accepted = subst (AllAccepted m rows) (sym here.narrowed.narrow.long) h.accepted; proper = (here.due e).0 }
 
 -- ---- the statements
 

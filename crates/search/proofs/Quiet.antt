@@ -1,16 +1,18 @@
 -- Rows whose turns leave the sets as they are need no turn.
-use Rattle.std.proofs.Common.{◌≡◌, ℕ, ◌+◌, ◌≤◌, Bool, true, false, Option, Some, None, is_some, IfSome, List, [], ◌∷◌, length, drop, sym, refl, ap, ◌∙◌, subst, arith}
+use Rattle.std.proofs.Common.{◌≡◌, ℕ, zero, suc, ◌+◌, ◌<◌, ◌≤◌, Bool, true, false, Option, Some, None, is_some, IfSome, List, [], ◌∷◌, length, get_or, drop, sym, refl, ap, ◌∙◌, subst, arith}
 use Rattle.std.specs.Prelude.{MatchOption}
 use Rattle.std.proofs.lemmas.List.{drop_more, at_drop_all}
 use Rattle.std.proofs.lemmas.Bool.{not-false}
 use Rattle.rows.specs.declared.row.Row.{Row}
 use Rattle.rows.specs.Rows.{RowData, Meaning}
 use Rattle.rows.specs.Views.{row_of, rows_of}
-use Rattle.sets.specs.Placings.{same, changed}
+use Rattle.rows.specs.Laws.{Accepted}
+use Rattle.sets.specs.Placings.{same, changed, some_empty}
 use Rattle.sets.proofs.Lists.{same_self, same_is}
-use Rattle.search.specs.Propagation.{Round, round_from}
-use Rattle.search.specs.Results.{Stable}
-use Rattle.search.proofs.Scans.{Turned, round_none}
+use Rattle.search.specs.Placed.{AllAccepted}
+use Rattle.search.specs.Propagation.{Round, round, round_from}
+use Rattle.search.specs.Results.{Stable, RoundDone}
+use Rattle.search.proofs.Scans.{Turned, round_none, round_stop}
 use Rattle.search.proofs.PropagationFacts.{idle_is}
 
 -- such rows change nothing in what is left of a round
@@ -46,23 +48,36 @@ module _ (m : Meaning) (rows : List Row) (quiet : ℕ) where
             (here, subst (Stable m (rows_of (drop (i + 1) rows))) same_sets later))),
       )
 
-  -- what a round comes to that ends at row i
-  pub record Ends (s : List ℕ) (due : Option ℕ) (r : Round) : Type 0 where
-    pub after : s ≡ r.sets
-    pub value : is_some due ≡ r.again
-    pub rest : IfSome due (λ k. Stable m (rows_of (drop k rows)) s)
+  -- where no row is left
+  pub going_over : (i : ℕ) (s t : List ℕ) (due : Option ℕ) (end : ℕ) → Going m rows quiet i t due end → length rows ≤ i
+      → round_from m (is_some due) (rows_of (drop i rows)) t ≡ round m (rows_of rows) s → RoundDone m rows s due t
+  going_over i s t due end h past e =
+      let is : record { sets = t; again = is_some due } ≡ round m (rows_of rows) s = sym (round_none m (is_some due) rows i t past) ∙ e in
+      record { after = ap (λ (x : Round). x.sets) is; value = ap (λ (x : Round). x.again) is; rest = go due h }
+    where
+      go : (due : Option ℕ) → Going m rows quiet i t due end → IfSome due (λ k. Stable m (rows_of (drop k rows)) t)
+      go None h = tt
+      go (Some k) h = h.1 (subst (λ l. Stable m (rows_of l) t) (sym (at_drop_all (λ l. l) rows i past)) tt)
 
-  pub going_ends : (i : ℕ) (s : List ℕ) (due : Option ℕ) (end : ℕ) (r : Round) → Going m rows quiet i s due end → i ≡ end
-      → round_from m (is_some due) (rows_of (drop i rows)) s ≡ r → Ends s due r
-  going_ends i s None end r h l e =
-      let still : Stable m (rows_of (drop i rows)) s = subst (λ n. Stable m (rows_of (drop n rows)) s) (sym (l ∙ h.0)) h.1 in
-      let is : record { sets = s; again = false } ≡ r = sym (stable_round m false (rows_of (drop i rows)) s still) ∙ e in
+  -- what a round comes to that ends at row i
+  pub going_ends : (i : ℕ) (s t : List ℕ) (due : Option ℕ) (end : ℕ) → Going m rows quiet i t due end → i ≡ end
+      → round_from m (is_some due) (rows_of (drop i rows)) t ≡ round m (rows_of rows) s → RoundDone m rows s due t
+  going_ends i s t None end h l e =
+      let still : Stable m (rows_of (drop i rows)) t = subst (λ n. Stable m (rows_of (drop n rows)) t) (sym (l ∙ h.0)) h.1 in
+      let is : record { sets = t; again = false } ≡ round m (rows_of rows) s = sym (stable_round m false (rows_of (drop i rows)) t still) ∙ e in
       record { after = ap (λ (x : Round). x.sets) is; value = ap (λ (x : Round). x.again) is; rest = tt }
-  going_ends i s (Some k) end r h l e =
-      let past : length rows ≤ i = omega (arith, l, h.0) in
-      let is : record { sets = s; again = true } ≡ r = sym (round_none m true rows i s past) ∙ e in
-      record {
-        after = ap (λ (x : Round). x.sets) is;
-        value = ap (λ (x : Round). x.again) is;
-        rest = h.1 (subst (λ l. Stable m (rows_of l) s) (sym (at_drop_all (λ l. l) rows i past)) tt);
-      }
+  going_ends i s t (Some k) end h l e =
+      going_over i s t (Some k) end h (omega (arith, l, h.0)) e
+
+  -- where a turn empties a set
+  pub going_stops : (i : ℕ) (r : Row) (s u t : List ℕ) (due : Option ℕ) → Turned m rows i r u t true → some_empty t ≡ true
+      → round_from m (is_some due) (rows_of (drop i rows)) u ≡ round m (rows_of rows) s → RoundDone m rows s None t
+  going_stops i r s u t due w z e =
+      let is : record { sets = t; again = false } ≡ round m (rows_of rows) s = sym (round_stop m (is_some due) rows i r u t true w refl z) ∙ e in
+      record { after = ap (λ (x : Round). x.sets) is; value = ap (λ (x : Round). x.again) is; rest = tt }
+
+-- the row at i is accepted
+pub accepted_row : (m : Meaning) (rows : List Row) (n i : ℕ) (r : Row) → AllAccepted m (rows_of rows) n → i < length rows → r ≡ get_or rows i r → Accepted m (row_of r) n
+accepted_row m [] n i r a l e = absurd (omega arith)
+accepted_row m (x ∷ rows) n zero r a l e = subst (λ (y : Row). Accepted m (row_of y) n) (sym e) a.0
+accepted_row m (x ∷ rows) n (suc i) r a l e = accepted_row m rows n i r a.1 (omega arith) e

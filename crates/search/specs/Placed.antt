@@ -1,6 +1,8 @@
 -- Lawful placings, and the least of them.
-use Rattle.std.specs.Prelude.{◌≡◌, ℕ, true, ◌⊎◌, List, [], ◌∷◌}
-use Rattle.sets.specs.Placings.{Within, Lesser}
+use Rattle.std.specs.Prelude.{◌≡◌, ℕ, true, ◌⊎◌, List, [], ◌∷◌, length}
+use mathlib.Core.HLevel.{×_prop, Unit-prop}
+use Rattle.std.proofs.Props.{props}
+use Rattle.sets.specs.Placings.{Proper, Within, Lesser}
 use Rattle.std.specs.List.{list_all}
 use Rattle.rows.specs.Rows.{RowData, Meaning}
 use Rattle.rows.specs.Laws.{Accepted}
@@ -9,6 +11,19 @@ use Rattle.rows.specs.Laws.{Accepted}
 abbrev pub AllAccepted : Meaning → List RowData → ℕ → Type 0
 AllAccepted m [] n = Unit {0}
 AllAccepted m (r ∷ rows) n = Accepted m r n × AllAccepted m rows n
+
+-- what the laws ask of rows and sets: the bank accepts each row with as many voices, and no set is empty
+pub record Ready (m : Meaning) (rows : List RowData) (s : List ℕ) : Type 0 where
+  pub accepted : AllAccepted m rows (length s)
+  pub proper : Proper s
+
+-- each of these facts has one proof at most
+all_accepted_once : (m : Meaning) (rows : List RowData) (n : ℕ) → IsProp (AllAccepted m rows n)
+all_accepted_once m [] n = Unit-prop
+all_accepted_once m (r ∷ rows) n = ×_prop (Prim.hlevel props) (all_accepted_once m rows n)
+
+pub ready_once : (m : Meaning) (rows : List RowData) (s : List ℕ) → IsProp (Ready m rows s)
+ready_once m rows s = Prim.hlevel (all_accepted_once, props)
 
 -- every row holds for the placing p
 abbrev pub AllHold : Meaning → List RowData → List ℕ → Type 0

@@ -1,13 +1,15 @@
 -- What propagation, the state of a search and the answers of its calls say of the placings.
-use Rattle.std.specs.Prelude.{◌≡◌, ℕ, ◌+◌, ◌*◌, ◌<◌, ◌≤◌, Bool, true, false, ◌&&◌, ◌||◌, ◌↔◌, List, [], ◌∷◌, length, take, drop, ◌==◌}
+use Rattle.std.specs.Prelude.{◌≡◌, ℕ, ◌+◌, ◌*◌, ◌<◌, ◌≤◌, Bool, true, false, ◌&&◌, ◌||◌, ◌↔◌, List, [], ◌∷◌, length, take, drop, Option, is_some, IfSome, ◌==◌}
 use Rattle.sets.specs.Placings.{some_empty, Proper, Within, Narrower}
 use Rattle.std.specs.List.{list_all}
 use Rattle.rows.specs.Rows.{RowData, Meaning}
 use Rattle.rows.specs.Laws.{Alike, Agree}
+use Rattle.rows.specs.Views.{rows_of}
+use Rattle.rows.specs.declared.row.Row.{Row}
 use Rattle.rows.specs.Bytes.{Bytes, LaidOut, total_bytes}
 use Rattle.stores.specs.Stores.{View}
 use Rattle.search.specs.Limits.{most_voices, most_rows, most_bytes, most_opened}
-use Rattle.search.specs.Propagation.{rounds, size}
+use Rattle.search.specs.Propagation.{round, rounds, size}
 use Rattle.search.specs.Search.{Place}
 use Rattle.search.specs.Placed.{AllHold, Least, Lawless}
 use Rattle.search.specs.Calls.{Table, Answer, over, says}
@@ -18,6 +20,13 @@ use Rattle.search.specs.Calls.{Table, Answer, over, says}
 abbrev pub Stable : Meaning → List RowData → List ℕ → Type 0
 Stable m [] s = Unit {0}
 Stable m (r ∷ rows) s = (m.turn r s ≡ s) × Stable m rows s
+
+-- What is left of the sets s by a round of these rows that was run, and its answer: whether another is due, and from which row on none changes the sets
+-- that are left.
+pub record RoundDone (m : Meaning) (rows : List Row) (s : List ℕ) (due : Option ℕ) (t : List ℕ) : Type 0 where
+  pub after : t ≡ (round m (rows_of rows) s).sets
+  pub value : is_some due ≡ (round m (rows_of rows) s).again
+  pub rest : IfSome due (λ k. Stable m (rows_of (drop k rows)) t)
 
 -- the sets t are what propagation may leave of the sets s
 pub record Propagates (m : Meaning) (rows : List RowData) (s t : List ℕ) : Type 0 where

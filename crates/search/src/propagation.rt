@@ -1,9 +1,10 @@
 // Propagation: rows take turns until none changes a set, or one empties a set.
-ghost use Rattle.std.specs.Prelude.{◌≡◌, drop, is_some, IfSome};
+ghost use Rattle.std.specs.Prelude.{◌≡◌, drop};
 ghost use Rattle.sets.specs.Placings.{some_empty};
 ghost use Rattle.rows.specs.Views.{rows_of};
-ghost use Rattle.search.specs.Propagation.{round, propagated};
-ghost use Rattle.search.specs.Results.{Stable};
+ghost use Rattle.search.specs.Propagation.{propagated};
+ghost use Rattle.search.specs.Placed.{Ready};
+ghost use Rattle.search.specs.Results.{Stable, RoundDone};
 
 use rows::bank::Bank;
 use rows::row::Row;
@@ -27,10 +28,8 @@ pub fn has_empty(sets: &[ValueSet]) -> bool
 // Each row has a turn in order, until one empties a set. Where none has changed a set yet, the rows from `quiet` on need none: theirs left these sets as they
 // are. Says whether another round is due, since some turn changed a set and none emptied one: the rows from the answered one on left the sets as they are then.
 fn run_round<B: Bank>(rows: &[Row], sets: &mut [ValueSet], quiet: usize) -> Option<usize>
-    requires quiet { Stable B.Bank.meaning (rows_of (drop quiet rows.now)) sets.old }
-    ensures after { sets.new ≡ (round B.Bank.meaning (rows_of rows.now) sets.old).sets }
-    ensures value { is_some result ≡ (round B.Bank.meaning (rows_of rows.now) sets.old).again }
-    ensures rest { IfSome result (λ k. Stable B.Bank.meaning (rows_of (drop k rows.now)) sets.new) }
+    ensures { Ready B.Bank.meaning (rows_of rows.now) sets.old → Stable B.Bank.meaning (rows_of (drop quiet rows.now)) sets.old
+        → RoundDone B.Bank.meaning rows.now sets.old result sets.new }
 {
     let mut due = None;
     let mut end = quiet;
@@ -49,9 +48,9 @@ fn run_round<B: Bank>(rows: &[Row], sets: &mut [ValueSet], quiet: usize) -> Opti
     due
 }
 
-// Rounds as long as another is due.
+// Rounds as long as another is due. What a turn answers is known where its row is accepted and no set is empty.
 pub fn propagate<B: Bank>(rows: &[Row], sets: &mut [ValueSet])
-    ensures { sets.new ≡ propagated B.Bank.meaning (rows_of rows.now) sets.old }
+    ensures { Ready B.Bank.meaning (rows_of rows.now) sets.old → sets.new ≡ propagated B.Bank.meaning (rows_of rows.now) sets.old }
 {
     let mut quiet = rows.len();
     for _ in 0..=MOST_VALUES * sets.len() as u128 {

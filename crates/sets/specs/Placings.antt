@@ -29,6 +29,10 @@ values sets = map least sets
 abbrev pub Proper : List ℕ → Type 0
 Proper sets = (i : ℕ) → i < length sets → (0 < slice_index sets i) × (slice_index sets i < 2 ^ 64)
 
+-- the placings that a table has: each value below 64
+abbrev pub Placing : List ℕ → Type 0
+Placing p = (i : ℕ) → i < length p → slice_index p i < 64
+
 -- a placing takes from each set one of its values
 pub record Within (p sets : List ℕ) : Type 0 where
   pub long : length p ≡ length sets

@@ -57,7 +57,7 @@ module _ (m : Meaning) (L : Laws m) where
       all_pass (lettered m (encode r)) (counted (encode r)) (right_length m (encode r)) (marked (drop (head_length m (encode r)) (encode r))) (m.accepts (decode m (encode r)) (length voices))
       (leb most_rows (length rows) || ltb most_bytes (total_bytes rows + length (encode r)))
       y.letters y.counts y.long y.marks
-      (ap (λ (x : RowData). m.accepts x (length voices)) w.2 ∙ accepted_at m rows r rest (length voices) H.all_accepted)
+      (ap (λ (x : RowData). m.accepts x (length voices)) w.2 ∙ (accepted_at m rows r rest (length voices) H.all_accepted).yes)
       (or_from (leb most_rows (length rows)) (ltb most_bytes (total_bytes rows + length (encode r))) (lt-leb most_rows (length rows) few) (le-ltb most_bytes (total_bytes rows + length (encode r)) short))
 
   -- the row at the front of its bytes and others

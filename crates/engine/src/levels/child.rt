@@ -1,5 +1,6 @@
 // The node that is opened next, and its value taken out of the newest level.
 ghost use Rattle.std.specs.Prelude.{◌≡◌, false, length};
+ghost use Rattle.sets.specs.Placings.{Proper};
 ghost use Rattle.engine.specs.Levels.{is_spent, next_sets, tried};
 ghost use Rattle.engine.specs.Stacks.{listed};
 
@@ -13,7 +14,8 @@ impl Levels {
         requires voices { length voices.now ≡ self.now.width }
         requires width { length sets.old ≡ self.now.width }
         requires lasts { is_spent (listed self.now) ≡ false }
-        ensures { sets.new ≡ next_sets voices.now (listed self.now) }
+        ensures after { sets.new ≡ next_sets voices.now (listed self.now) }
+        ensures proper { Proper voices.now → Proper sets.new }
     {
         let Some(level) = self.records.last() else {
             sets.copy_from_slice(voices);

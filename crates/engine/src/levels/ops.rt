@@ -1,5 +1,6 @@
 // Levels made, dropped, put on top and taken from there.
 ghost use Rattle.std.specs.Prelude.{◌≡◌, ◌<◌, ◌≤◌, false, ◌∷◌, length, slice_index, vec_len, ◌+◌, IfOk};
+ghost use Rattle.sets.specs.Placings.{Proper};
 ghost use Rattle.search.specs.Limits.{most_voices};
 ghost use Rattle.search.specs.Search.{below};
 ghost use Rattle.engine.specs.Levels.{is_none, is_spent, newest_sets, without_newest};
@@ -84,6 +85,7 @@ impl Levels {
         requires width { length sets.now ≡ self.old.width }
         requires inside { voice < length sets.now }
         requires above { below (listed self.old) ≤ voice }
+        requires proper { Proper sets.now }
         ensures width { self.new.width ≡ self.old.width }
         ensures list { listed self.new ≡ record { sets = sets.now; voice = voice; left = slice_index sets.now voice } ∷ listed self.old }
     {

@@ -3,6 +3,7 @@ ghost use Rattle.std.specs.Prelude.{◌≡◌, ◌<◌, ◌≤◌, length, not, 
 ghost use Rattle.sets.specs.Sets.{fixed};
 ghost use Rattle.rows.specs.Views.{rows_of};
 ghost use Rattle.search.specs.Limits.{most_rows};
+ghost use Rattle.search.specs.Placed.{Ready};
 ghost use Rattle.search.specs.Propagation.{propagated};
 ghost use Rattle.search.specs.Search.{below, node};
 ghost use Rattle.engine.specs.Nodes.{node_of, Branches, FirstOpen};
@@ -36,7 +37,8 @@ fn first_open(sets: &[ValueSet], from: usize) -> Option<usize>
 impl Search {
     // Propagates the node's sets, and says what it is.
     pub(crate) fn classify<B: Bank, S: Store>(&mut self, rows: &[Row], store: &S) -> Node
-        requires { length rows.now ≤ most_rows }
+        requires few { length rows.now ≤ most_rows }
+        requires ready { Ready B.Bank.meaning (rows_of rows.now) (node_sets self.old) }
         ensures same { SamePlace self.old self.new }
         ensures after { node_sets self.new ≡ propagated B.Bank.meaning (rows_of rows.now) (node_sets self.old) }
         ensures value { node B.Bank.meaning (rows_of rows.now) (S.Store.view store.now) (below (levels_of self.old)) (node_sets self.new) ≡ node_of result (node_sets self.new) }

@@ -2,6 +2,7 @@
 ghost use Rattle.std.specs.Prelude.{◌≡◌, ◌+◌, ◌-◌, ◌<◌, ◌≤◌, false, length};
 ghost use Rattle.rows.specs.Views.{rows_of};
 ghost use Rattle.search.specs.Limits.{most_rows, most_opened};
+ghost use Rattle.search.specs.Placed.{Ready};
 ghost use Rattle.search.specs.Calls.{over};
 ghost use Rattle.engine.specs.Levels.{tried};
 ghost use Rattle.engine.specs.Places.{Opened};
@@ -21,6 +22,7 @@ impl Search {
     fn open_node<B: Bank, S: Store>(&mut self, rows: &[Row], store: &mut S)
         requires rows { length rows.now ≤ most_rows }
         requires few { self.old.opened < most_opened }
+        requires ready { Ready B.Bank.meaning (rows_of rows.now) (node_sets self.old) }
         ensures opens { Opened B.Bank.meaning (rows_of rows.now) (node_sets self.old) (tried (levels_of self.old)) (S.Store.view store.old) (place self.new) (S.Store.view store.new) (self.new.exhausted - self.old.exhausted) }
         ensures more { self.old.exhausted ≤ self.new.exhausted }
         ensures voices { voice_count self.new ≡ voice_count self.old }
@@ -49,6 +51,7 @@ impl Search {
         requires voices { length voices.now ≡ voice_count self.old }
         requires rows { length rows.now ≤ most_rows }
         requires few { self.old.opened < most_opened }
+        requires ready { Ready B.Bank.meaning (rows_of rows.now) voices.now }
         ensures goes { Ran B.Bank.meaning 1 (table_of voices.now (rows_of rows.now) self.old) (S.Store.view store.old) (table_of voices.now (rows_of rows.now) self.new) (S.Store.view store.new) }
         ensures voices { voice_count self.new ≡ voice_count self.old }
         ensures count { self.new.opened ≡ self.old.opened + 1 }
@@ -68,6 +71,7 @@ impl Search {
         requires voices { length voices.now ≡ voice_count self.old }
         requires rows { length rows.now ≤ most_rows }
         requires few { self.old.opened + budget ≤ most_opened }
+        requires ready { Ready B.Bank.meaning (rows_of rows.now) voices.now }
         ensures runs { Runs B.Bank.meaning budget (table_of voices.now (rows_of rows.now) self.old) (S.Store.view store.old) (table_of voices.now (rows_of rows.now) self.new) (S.Store.view store.new) }
         ensures voices { voice_count self.new ≡ voice_count self.old }
     {

@@ -1,26 +1,33 @@
 use Rattle.std.proofs.Common.{◌≡◌, ℕ, suc, ◌+◌, ◌-◌, ◌*◌, true, length, le_refl, sym, refl, ap, ◌∙◌, subst, arith}
 use Rattle.std.proofs.lemmas.List.{at_drop_all}
 use Rattle.rows.specs.Views.{rows_of}
+use Rattle.search.specs.Placed.{Ready}
 use Rattle.search.specs.Propagation.{rounds}
 use Rattle.search.specs.Results.{Stable}
+use Rattle.search.proofs.PropagationFacts.{round_ready}
 use Rattle.search.proofs.Scans.{rounds_more}
 use Rattle.search.proofs.propagation.propagate.Goals as goal
 
 pub loop-init : goal.loop-init
-loop-init g c =
+loop-init g c = λ ready.
     let most = 64 * length c.args.sets.now in
-    let all : suc (most - 0) ≡ suc most = omega arith in
-    (ap (λ (n : ℕ). rounds g.B.Bank.meaning (rows_of c.args.rows.now) n c.args.sets.now) all, subst (λ l. Stable g.B.Bank.meaning (rows_of l) c.args.sets.now) (sym (at_drop_all (λ l. l) c.args.rows.now (length c.args.rows.now) (le_refl (length c.args.rows.now)))) tt)
+    let all : suc (most - 0) ≡ suc most = omega arith in (
+      ap (λ (n : ℕ). rounds g.B.Bank.meaning (rows_of c.args.rows.now) n c.args.sets.now) all,
+      subst (λ l. Stable g.B.Bank.meaning (rows_of l) c.args.sets.now) (sym (at_drop_all (λ l. l) c.args.rows.now (length c.args.rows.now) (le_refl (length c.args.rows.now)))) tt,
+      ready,
+    )
 
 pub loop-preserved : goal.loop-preserved
-loop-preserved g c =
+loop-preserved g c = λ ready.
     let m = g.B.Bank.meaning in
     let rows = rows_of c.args.rows.now in
     let most = 64 * length c.args.sets.now in
     let one_less : suc (most - (c.loop.counter + 1)) ≡ most - c.loop.counter = omega arith in
-    let due = c.in-Some.ensures.value in (
+    let now = c.loop.invariant ready in
+    let done = c.in-Some.ensures now.2 now.1 in (
       ap (λ (n : ℕ). rounds m rows n c.run_round.new.sets) one_less
-          ∙ sym (rounds_more m rows (most - c.loop.counter) c.loop.sets c.run_round.new.sets true c.in-Some.ensures.after due refl)
-          ∙ c.loop.invariant.0,
-      c.in-Some.ensures.rest,
+          ∙ sym (rounds_more m rows (most - c.loop.counter) c.loop.sets c.run_round.new.sets true done.after done.value refl)
+          ∙ now.0,
+      done.rest,
+      subst (Ready m rows) (sym done.after) (round_ready m g.met.B.Bank.lawful rows c.loop.sets now.2 (sym done.value)),
     )

@@ -1,8 +1,10 @@
 use Rattle.std.proofs.Common.{◌≡◌, ℕ, ◌-◌, ◌*◌, List, length, take, sym, ap, ◌∙◌, subst, ap₂, arith}
 use Rattle.std.proofs.lemmas.List.{length-take-le}
+use Rattle.sets.specs.Placings.{Proper}
 use Rattle.engine.specs.declared.level.LevelRecord.{LevelRecord}
 use Rattle.engine.specs.Levels.{Voiced, levels_at}
 use Rattle.engine.proofs.Leveled.{levels_pop, voiced_take}
+use Rattle.engine.proofs.Filled.{proper_take}
 use Rattle.engine.proofs.Stacked.{whole_trail, some_records, below_newest}
 use Rattle.engine.proofs.levels.Levels.pop.Goals as goal
 
@@ -21,6 +23,7 @@ invariant_of-self c =
       whole = omega (arith, c.truncate.ensures.len, below_newest s c.requires, ap (λ (n : ℕ). n * s.width) e);
       deep = omega (arith, s.deep, e);
       voiced = subst (Voiced s.width) (sym c.pop.ensures.rest) (voiced_take s.width (s.records.len - 1) s.records.items (omega (arith, s.records.ok.0)) s.voiced);
+      proper = subst Proper (sym c.truncate.ensures.items) (proper_take _ s.trail.items s.proper);
     }
 
 pub returns-clause-count : goal.returns-clause-count

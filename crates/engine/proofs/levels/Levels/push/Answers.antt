@@ -1,7 +1,9 @@
 use Rattle.std.proofs.Common.{◌≡◌, ℕ, ◌+◌, ◌*◌, Bool, cond, List, ◌++◌, length, get_or, sym, ap, ◌∙◌, subst, ap₂, suc-mul, arith}
+use Rattle.sets.specs.Placings.{Proper}
 use Rattle.engine.specs.declared.level.LevelRecord.{LevelRecord}
 use Rattle.engine.specs.Levels.{Voiced, levels_at}
 use Rattle.engine.proofs.Leveled.{levels_push, voiced_push}
+use Rattle.engine.proofs.Filled.{proper_append}
 use Rattle.engine.proofs.Stacked.{whole_trail, roomy}
 use Rattle.engine.proofs.levels.Levels.push.Goals as goal
 
@@ -12,6 +14,8 @@ invariant_of-self c =
     let ok = c.extend_from_slice.ensures.succeeds (omega (arith, r.room, c.requires.width)) in
     let long : c.extend_from_slice.new.self.len ≡ s.trail.len + length c.args.sets.now =
     c.extend_from_slice.ensures.len ∙ ap (λ (b : Bool). cond b (s.trail.len + length c.args.sets.now) s.trail.len) ok in
+    let trail : c.extend_from_slice.new.self.items ≡ s.trail.items ++ c.args.sets.now =
+    c.extend_from_slice.ensures.items ∙ ap (λ (b : Bool). cond b (s.trail.items ++ c.args.sets.now) s.trail.items) ok in
     record {
       narrow = s.narrow;
       broad = omega (arith, s.broad, c.extend_from_slice.ensures.capacity);
@@ -20,6 +24,7 @@ invariant_of-self c =
       deep = omega (arith, r.fewer, c.push_reserved.ensures.len);
       voiced = subst (Voiced s.width) (sym c.push_reserved.ensures.items)
           (voiced_push s.width s.records.items (record { voice = c.args.voice; left = get_or c.args.sets.now c.args.voice 0 }) r.above (omega (arith, c.requires.inside, c.requires.width)) s.voiced);
+      proper = subst Proper (sym trail) (proper_append s.trail.items c.args.sets.now s.proper c.requires.proper);
     }
 
 pub returns-clause-list : goal.returns-clause-list

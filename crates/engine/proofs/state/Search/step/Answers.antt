@@ -17,4 +17,4 @@ returns-clause-goes g c =
     ran_one m c.args.voices.now rows (place s) (place t) s.opened s.exhausted t.opened t.exhausted (g.S.Store.view c.args.store.now) (g.S.Store.view c.open_node.new.store) (t.exhausted - s.exhausted)
     c.open_node.ensures.count (omega (arith, c.open_node.ensures.more))
     (next_step m c.args.voices.now rows (vec_items (with_items s.sets c.read_next.new.sets)) (levels_of s) s.end (node_sets s) (g.S.Store.view c.args.store.now) (g.S.Store.view c.open_node.new.store)
-    (place t) (t.exhausted - s.exhausted) c.requires.open (with_items_is s.sets c.read_next.new.sets long ∙ c.read_next.ensures) c.open_node.ensures.opens)
+    (place t) (t.exhausted - s.exhausted) c.requires.open (with_items_is s.sets c.read_next.new.sets long ∙ c.read_next.ensures.after) c.open_node.ensures.opens)

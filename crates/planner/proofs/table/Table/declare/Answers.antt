@@ -4,6 +4,7 @@ use Rattle.search.specs.Calls.Call.{declare}
 use Rattle.engine.specs.Searches.{table_of, voice_count}
 use Rattle.planner.specs.Shown.{model, store_in, rows_in}
 use Rattle.planner.proofs.Calling.{lasts_by, declines_by, declares_by}
+use Rattle.planner.proofs.Readying.{ready_voice}
 use Rattle.planner.proofs.Judging.{empty_set, voices_full, voice_fits}
 use Rattle.planner.proofs.table.Table.declare.Goals as goal
 
@@ -25,6 +26,13 @@ returns-then-len-ge-MOST_VOICES g c =
     let full : 80 ≤ length (vec_items t.voices) = omega (arith, t.voices.ok.0) in
     let d = declines_by m (model t) v (declare c.args.set) 11 (λ j. voices_full m (model t j) c.args.set c.if-set-eq0.false full) in
     record { does = d; lasts = lasts_by m g.met.B.Bank.lawful (model t) v (declare c.args.set) (Answer.refused 11) (model t) v fits d; declined = refl }
+
+pub invariant_of-self-clause-ready : goal.invariant_of-self-clause-ready
+invariant_of-self-clause-ready g c =
+    let t = c.args.self.now in
+    let some : 0 < c.args.set = omega arith in
+    let fits : c.args.set < 2 ^ 64 = search rules in
+    ready_voice g.B.Bank.meaning g.met.B.Bank.lawful (rows_in t) (vec_items t.voices) (vec_items c.push_reserved.new.self) c.args.set c.push_reserved.ensures.items some fits t.ready
 
 pub returns : goal.returns
 returns g c =

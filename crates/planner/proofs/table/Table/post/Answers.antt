@@ -1,10 +1,13 @@
-use Rattle.std.proofs.Common.{◌≡◌, ℕ, ◌+◌, ◌<◌, length, take, set, Ok, vec_items, Result, refl, ap, ◌∙◌, arith}
+use Rattle.std.proofs.Common.{◌≡◌, ℕ, ◌+◌, ◌<◌, List, length, take, set, Ok, vec_items, Result, sym, refl, ap, ◌∙◌, subst, arith}
 use Rattle.std.proofs.lemmas.List.{length-map, length-take-le}
 use Rattle.std.proofs.lemmas.Result.{err_from_is_err_and}
-use Rattle.rows.specs.Bytes.{Bytes, total_bytes}
+use Rattle.rows.specs.Rows.{RowData}
+use Rattle.rows.specs.Laws.{Accepted}
+use Rattle.rows.specs.Bytes.{Bytes, decode, total_bytes}
 use Rattle.rows.specs.Numbers.{row_number_of}
 use Rattle.rows.specs.Reading.{row_verdict}
 use Rattle.rows.specs.Views.{row_of, rows_of}
+use Rattle.search.specs.Placed.{Ready}
 use Rattle.search.specs.Calls.{Answer}
 use Rattle.search.specs.Calls.Call.{post}
 use Rattle.engine.specs.Searches.{table_of, voice_count}
@@ -13,6 +16,7 @@ use Rattle.planner.specs.Refusals.{refusal_number}
 use Rattle.planner.specs.Shown.{model, store_in, rows_in, done_answer}
 use Rattle.planner.proofs.Calling.{on_err, lasts_by, declines_kept, posts_by}
 use Rattle.planner.proofs.Posting.{fault, bytes_decline, rows_full, row_fits, laid_out, full_by, open_by, room_left, rows_kept, rows_pushed, bytes_pushed}
+use Rattle.planner.proofs.Readying.{passed_row, ready_row}
 use Rattle.planner.proofs.table.Table.post.Goals as goal
 
 pub invariant_of-self : goal.invariant_of-self
@@ -26,6 +30,7 @@ invariant_of-self g c =
       spare = t.spare;
       short = t.short;
       weighed = ap total_bytes (rows_kept t.rows.items t.posted c.accept_bytes.new.row) ∙ t.weighed;
+      ready = subst (λ (x : List RowData). Ready g.B.Bank.meaning x (vec_items t.voices)) (sym (rows_kept t.rows.items t.posted c.accept_bytes.new.row)) t.ready;
     }
 
 pub returns-in_err-accept_bytes : goal.returns-in_err-accept_bytes
@@ -71,6 +76,7 @@ invariant_of-self-2 g c =
     let kept = rows_kept t.rows.items t.posted r in
     let b : Bytes bs = λ i l. (c.type_inv.bytes i).fits in
     let k : t.posted < length t.rows.items = omega (arith, t.within, t.spare, t.rows.ok.0) in
+    let n : c.len-voices.result ≡ length (vec_items t.voices) = omega (arith, c.len-voices.ensures, t.voices.ok.0) in
     let size : length (rows_in t) ≡ t.posted = length-map (take t.posted t.rows.items) row_of ∙ length-take-le t.posted t.rows.items (omega arith) in
     let left = room_left (rows_in t) (length bs) (open_by (rows_in t) (rows_of (take t.posted (set t.rows.items t.posted r))) (length bs) kept c.if-not-has_room.ensures) in
     let l = laid_out m bs c.len-voices.result c.in_ok-accept_bytes.field-0 c.in_ok-accept_bytes.ensures.value in
@@ -83,6 +89,8 @@ invariant_of-self-2 g c =
       spare = t.spare;
       short = omega (arith, left.1, t.weighed);
       weighed = bytes_pushed m (rows_in t) (rows_of (take (t.posted + 1) (set t.rows.items t.posted r))) bs t.bytes b l pushed t.weighed;
+      ready = ready_row m (rows_in t) (rows_of (take (t.posted + 1) (set t.rows.items t.posted r))) (vec_items t.voices) (decode m bs) pushed
+          (subst (Accepted m (decode m bs)) n (passed_row m bs c.len-voices.result c.in_ok-accept_bytes.field-0 b c.in_ok-accept_bytes.ensures.value)) t.ready;
     }
 
 pub returns : goal.returns
