@@ -3,7 +3,7 @@ use Rattle.std.specs.Prelude.{◌≡◌, ℕ, zero, suc, ◌+◌, ◌^◌, ◌<�
 use Rattle.rows.specs.Numbers.{number_of}
 use Rattle.rows.specs.Rows.{RowData, Meaning, Verdict}
 use Rattle.rows.specs.Bytes.{Bytes, head_length, lettered, counted, right_length, marked, decode, total_bytes}
-use Rattle.stores.specs.Stores.{View, Emptied}
+use Rattle.stores.specs.Behaviours.{Behaviour}
 use Rattle.search.specs.Limits.{most_voices, most_rows, most_bytes, most_budget, most_opened}
 use Rattle.search.specs.Search.{Place, Steps}
 
@@ -117,20 +117,20 @@ judged m t c = judge (reasons m t c)
 
 -- ---- Solve
 
--- so many nodes, one after the other, none of them after the search is over
-pub data Goes (m : Meaning) : ℕ → Table → View → Table → View → Type 0 where
-  stay : (t : Table) (v : View) → Goes m zero t v t v
-  more : (b : ℕ) (t u : Table) (v w x : View) (p : Place) (n k : ℕ)
-      → Steps m t.voices t.rows t.place v p w n k
-      → Goes m b (record { voices = t.voices; rows = t.rows; place = p; opened = t.opened + 1; exhausted = t.exhausted + n; lost = t.lost + k }) w u x
-      → Goes m (suc b) t v u x
+-- so many nodes, one after the other, none of them after the search is over; over a store with the behaviour b, from one state to another
+pub data Goes (b : Behaviour) (m : Meaning) : ℕ → Table → b.State → Table → b.State → Type 0 where
+  stay : (t : Table) (s : b.State) → Goes b m zero t s t s
+  more : (i : ℕ) (t u : Table) (s r x : b.State) (p : Place) (n k : ℕ)
+      → Steps b m t.voices t.rows t.place s p r n k
+      → Goes b m i (record { voices = t.voices; rows = t.rows; place = p; opened = t.opened + 1; exhausted = t.exhausted + n; lost = t.lost + k }) r u x
+      → Goes b m (suc i) t s u x
 
--- a Solve with the budget b: at most so many nodes, and fewer only if the search is over
-pub record Solved (m : Meaning) (b : ℕ) (t : Table) (v : View) (u : Table) (w : View) : Type 0 where
+-- a Solve with a budget: at most so many nodes, and fewer only if the search is over
+pub record Solved (b : Behaviour) (m : Meaning) (budget : ℕ) (t : Table) (s : b.State) (u : Table) (r : b.State) : Type 0 where
   pub count : ℕ
-  pub inside : count ≤ b
-  pub goes : Goes m count t v u w
-  pub ends : (over u.place ≡ true) ⊎ (count ≡ b)
+  pub inside : count ≤ budget
+  pub goes : Goes b m count t s u r
+  pub ends : (over u.place ≡ true) ⊎ (count ≡ budget)
 
 -- what Solve answers when the search then stands here
 abbrev pub says : Place → Answer
@@ -141,16 +141,16 @@ says Place.none = none
 
 -- ---- what a call does to a table and its store
 
--- The call, its answer, and the table and the store that it leaves.
-pub data Does (m : Meaning) (t : Table) (v : View) : Call → Answer → Table → View → Type 0 where
+-- The call, its answer, and the table and the state of the store that it leaves.
+pub data Does (b : Behaviour) (m : Meaning) (t : Table) (s : b.State) : Call → Answer → Table → b.State → Type 0 where
   -- a declined call leaves both as they are
-  declines : (c : Call) (n : ℕ) → judged m t c ≡ declined n → Does m t v c (refused n) t v
+  declines : (c : Call) (n : ℕ) → judged m t c ≡ declined n → Does b m t s c (refused n) t s
   -- Declare, Post and Wipe empty the store, and the search begins again
-  declares : (s : ℕ) (w : View) → judged m t (declare s) ≡ passes → Emptied v w → Does m t v (declare s) done (begun (t.voices ++ (s ∷ [])) t.rows) w
-  posts : (bs : List ℕ) (w : View) → judged m t (post bs) ≡ passes → Emptied v w → Does m t v (post bs) done (begun t.voices (t.rows ++ (decode m bs ∷ []))) w
-  wipes : (w : View) → Emptied v w → Does m t v wipe done empty w
+  declares : (set : ℕ) (r : b.State) → judged m t (declare set) ≡ passes → b.empties s r → Does b m t s (declare set) done (begun (t.voices ++ (set ∷ [])) t.rows) r
+  posts : (bs : List ℕ) (r : b.State) → judged m t (post bs) ≡ passes → b.empties s r → Does b m t s (post bs) done (begun t.voices (t.rows ++ (decode m bs ∷ []))) r
+  wipes : (r : b.State) → b.empties s r → Does b m t s wipe done empty r
   -- Solve goes on from where the last one stopped
-  solves : (b : ℕ) (u : Table) (w : View) → judged m t (solve b) ≡ passes → Solved m b t v u w → Does m t v (solve b) (says u.place) u w
+  solves : (budget : ℕ) (u : Table) (r : b.State) → judged m t (solve budget) ≡ passes → Solved b m budget t s u r → Does b m t s (solve budget) (says u.place) u r
   -- the values at the front of the buffer, and the bytes beyond as they were
   reads : (buffer p : List ℕ) → judged m t (read buffer) ≡ passes → t.place ≡ Place.found p
-      → Does m t v (read buffer) (wrote (length p) (p ++ drop (length p) buffer)) t v
+      → Does b m t s (read buffer) (wrote (length p) (p ++ drop (length p) buffer)) t s

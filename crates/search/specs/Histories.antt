@@ -1,16 +1,21 @@
 -- Histories of calls, and the voices and rows that they have given.
-use Rattle.std.specs.Prelude.{ℕ, Bool, true, false, cond, List, [], ◌∷◌, ◌++◌}
+use Rattle.std.specs.Prelude.{ℕ, Bool, true, false, cond, List, [], ◌∷◌, ◌++◌, map}
 use Rattle.rows.specs.Rows.{RowData, Meaning}
 use Rattle.rows.specs.Bytes.{decode}
-use Rattle.stores.specs.Stores.{View, IsEmpty}
+use Rattle.stores.specs.Behaviours.{Behaviour}
 use Rattle.search.specs.Calls.{Table, empty, Call, Answer, Formed, Does}
 use Rattle.search.specs.Calls.Call.{declare, post, solve, read, wipe}
 
--- What was called and answered, the newest first, since Make gave an empty table over an emptied store; and the table and store that it led to.
-pub data History (m : Meaning) : List (Call × Answer) → Table → View → Type 0 where
-  made : (v : View) → IsEmpty v → History m [] empty v
-  then : (h : List (Call × Answer)) (t u : Table) (v w : View) (c : Call) (a : Answer) → History m h t v → Formed c → Does m t v c a u w
-      → History m ((c, a) ∷ h) u w
+-- What was called and answered, the newest first, since Make gave an empty table over a store in the state g, which it emptied; and the table and the state that it
+-- led to.
+pub data History (b : Behaviour) (m : Meaning) (g : b.State) : List (Call × Answer) → Table → b.State → Type 0 where
+  made : (s : b.State) → b.empties g s → History b m g [] empty s
+  then : (h : List (Call × Answer)) (t u : Table) (s r : b.State) (c : Call) (a : Answer) → History b m g h t s → Formed c → Does b m t s c a u r
+      → History b m g ((c, a) ∷ h) u r
+
+-- the calls of a history
+abbrev pub calls_of : List (Call × Answer) → List Call
+calls_of h = map (λ x. x.0) h
 
 -- a Declare, a Post or a Wipe was accepted
 abbrev pub is_done : Answer → Bool

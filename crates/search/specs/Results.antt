@@ -7,7 +7,7 @@ use Rattle.rows.specs.Laws.{Alike, Agree}
 use Rattle.rows.specs.Views.{rows_of}
 use Rattle.rows.specs.declared.row.Row.{Row}
 use Rattle.rows.specs.Bytes.{Bytes, LaidOut, total_bytes}
-use Rattle.stores.specs.Stores.{View}
+use Rattle.stores.specs.Stores.{View, distinct_keys}
 use Rattle.search.specs.Limits.{most_voices, most_rows, most_bytes, most_opened}
 use Rattle.search.specs.Propagation.{round, rounds, size}
 use Rattle.search.specs.Search.{Place}
@@ -58,6 +58,8 @@ pub record Stands (m : Meaning) (t : Table) (v : View) : Type 0 where
   pub none_lawful : t.place ≡ Place.none → Lawless m t.voices t.rows
   -- a store that has lost no key holds as many as nodes were exhausted
   pub all_kept : t.lost ≡ 0 → length v.held ≡ t.exhausted
+  -- no key is told twice
+  pub distinct : distinct_keys v.held ≡ true
   -- no node has more than 64 children
   pub bounded : t.opened ≤ 1 + 64 * (t.exhausted + length t.voices)
 
@@ -103,18 +105,18 @@ pub record Reads (m : Meaning) (voices : List ℕ) (rows : List RowData) (buffer
   pub long : length b ≡ length buffer
   pub bytes : Bytes b
 
--- an accepted Solve with the budget b
-pub record Budgeted (t : Table) (v : View) (b : ℕ) (a : Answer) (u : Table) (w : View) : Type 0 where
+-- an accepted Solve with this budget
+pub record Budgeted (t : Table) (budget : ℕ) (a : Answer) (u : Table) : Type 0 where
   -- it opens at most the budget, and says stopped exactly when it opened that many and the search is not over
   pub at_least : t.opened ≤ u.opened
-  pub at_most : u.opened ≤ t.opened + b
-  pub stopped_exactly : (a ≡ Answer.stopped) ↔ ((u.opened ≡ t.opened + b) × (over u.place ≡ false))
+  pub at_most : u.opened ≤ t.opened + budget
+  pub stopped_exactly : (a ≡ Answer.stopped) ↔ ((u.opened ≡ t.opened + budget) × (over u.place ≡ false))
   -- its answer is what it finished with, and no voice or row is altered
   pub answer : a ≡ says u.place
   pub same_voices : u.voices ≡ t.voices
   pub same_rows : u.rows ≡ t.rows
   -- a finished table repeats its result
-  pub repeats : over t.place ≡ true → (u ≡ t) × (w ≡ v)
+  pub repeats : over t.place ≡ true → u ≡ t
 
 -- the number n is one of a call's refusals that fit
 abbrev pub fits : ℕ → List (ℕ × Bool) → Bool

@@ -4,7 +4,8 @@ use Rattle.sets.specs.Sets.{fixed, least, only}
 use Rattle.sets.specs.Placings.{some_empty, all_fixed, values}
 use Rattle.rows.specs.Rows.{RowData, Meaning}
 use Rattle.stores.specs.Keys.{key}
-use Rattle.stores.specs.Stores.{member, View, Keeps}
+use Rattle.stores.specs.Stores.{member, View}
+use Rattle.stores.specs.Behaviours.{Behaviour}
 use Rattle.stores.specs.declared.store.Stored.TheVariants.{Kept, Lost}
 use Rattle.search.specs.Propagation.{propagated}
 
@@ -78,25 +79,27 @@ taken l = record { sets = l.sets; voice = l.voice; left = l.left - only (least l
 
 -- ---- one node more
 
--- Backing up (backtracking) from a failed node below these levels, with the store v: a level with no value left to try is exhausted, and its key goes to
--- the store. Where the search stands then, the store, how many levels were exhausted and how many keys were lost.
-pub data BacksUp (m : Meaning) (rows : List RowData) : List Level → View → Place → View → ℕ → ℕ → Type 0 where
-  root : (v : View) → BacksUp m rows [] v none v 0 0
-  next : (l : Level) (ls : List Level) (v : View) → (l.left == 0) ≡ false → BacksUp m rows (l ∷ ls) v (going l ls) v 0 0
-  keeps : (l : Level) (ls : List Level) (v w u : View) (p : Place) (n k : ℕ) → (l.left == 0) ≡ true
-      → Keeps v (key m rows l.sets) Kept w → BacksUp m rows ls w p u n k → BacksUp m rows (l ∷ ls) v p u (suc n) k
-  loses : (l : Level) (ls : List Level) (v w u : View) (p : Place) (n k : ℕ) → (l.left == 0) ≡ true
-      → Keeps v (key m rows l.sets) Lost w → BacksUp m rows ls w p u n k → BacksUp m rows (l ∷ ls) v p u (suc n) (suc k)
+-- Over a store with the behaviour b, which is in the state s before and t afterwards.
 
--- Opening the node with the sets s below the levels ls: the same four things.
-pub data Opens (m : Meaning) (rows : List RowData) (s : List ℕ) (ls : List Level) (v : View) : Place → View → ℕ → ℕ → Type 0 where
-  finds : (p : List ℕ) → node m rows v (below ls) (propagated m rows s) ≡ solution p → Opens m rows s ls v (found p) v 0 0
-  branches : (l : Level) → node m rows v (below ls) (propagated m rows s) ≡ branch l → Opens m rows s ls v (going l ls) v 0 0
-  dies : (p : Place) (w : View) (n k : ℕ) → node m rows v (below ls) (propagated m rows s) ≡ dead → BacksUp m rows ls v p w n k → Opens m rows s ls v p w n k
-  hits : (p : Place) (w : View) (n k : ℕ) → node m rows v (below ls) (propagated m rows s) ≡ hit → BacksUp m rows ls v p w n k → Opens m rows s ls v p w n k
+-- Backing up (backtracking) from a failed node below these levels: a level with no value left to try is exhausted, and its key goes to the store. Where the search
+-- stands then, the store's state, how many levels were exhausted and how many keys were lost.
+pub data BacksUp (b : Behaviour) (m : Meaning) (rows : List RowData) : List Level → b.State → Place → b.State → ℕ → ℕ → Type 0 where
+  root : (s : b.State) → BacksUp b m rows [] s none s 0 0
+  next : (l : Level) (ls : List Level) (s : b.State) → (l.left == 0) ≡ false → BacksUp b m rows (l ∷ ls) s (going l ls) s 0 0
+  keeps : (l : Level) (ls : List Level) (s t u : b.State) (p : Place) (n k : ℕ) → (l.left == 0) ≡ true
+      → b.keeps s (key m rows l.sets) Kept t → BacksUp b m rows ls t p u n k → BacksUp b m rows (l ∷ ls) s p u (suc n) k
+  loses : (l : Level) (ls : List Level) (s t u : b.State) (p : Place) (n k : ℕ) → (l.left == 0) ≡ true
+      → b.keeps s (key m rows l.sets) Lost t → BacksUp b m rows ls t p u n k → BacksUp b m rows (l ∷ ls) s p u (suc n) (suc k)
+
+-- Opening the node with the given sets below the levels ls: the same four things.
+pub data Opens (b : Behaviour) (m : Meaning) (rows : List RowData) (sets : List ℕ) (ls : List Level) (s : b.State) : Place → b.State → ℕ → ℕ → Type 0 where
+  finds : (p : List ℕ) → node m rows (b.view s) (below ls) (propagated m rows sets) ≡ solution p → Opens b m rows sets ls s (found p) s 0 0
+  branches : (l : Level) → node m rows (b.view s) (below ls) (propagated m rows sets) ≡ branch l → Opens b m rows sets ls s (going l ls) s 0 0
+  dies : (p : Place) (t : b.State) (n k : ℕ) → node m rows (b.view s) (below ls) (propagated m rows sets) ≡ dead → BacksUp b m rows ls s p t n k → Opens b m rows sets ls s p t n k
+  hits : (p : Place) (t : b.State) (n k : ℕ) → node m rows (b.view s) (below ls) (propagated m rows sets) ≡ hit → BacksUp b m rows ls s p t n k → Opens b m rows sets ls s p t n k
 
 -- One node: the root, with the opening sets, of a fresh search, or the next child of the newest level.
-pub data Steps (m : Meaning) (voices : List ℕ) (rows : List RowData) : Place → View → Place → View → ℕ → ℕ → Type 0 where
-  first : (v w : View) (p : Place) (n k : ℕ) → Opens m rows voices [] v p w n k → Steps m voices rows fresh v p w n k
-  again : (l : Level) (ls : List Level) (v w : View) (p : Place) (n k : ℕ) → Opens m rows (child l) (taken l ∷ ls) v p w n k
-      → Steps m voices rows (going l ls) v p w n k
+pub data Steps (b : Behaviour) (m : Meaning) (voices : List ℕ) (rows : List RowData) : Place → b.State → Place → b.State → ℕ → ℕ → Type 0 where
+  first : (s t : b.State) (p : Place) (n k : ℕ) → Opens b m rows voices [] s p t n k → Steps b m voices rows fresh s p t n k
+  again : (l : Level) (ls : List Level) (s t : b.State) (p : Place) (n k : ℕ) → Opens b m rows (child l) (taken l ∷ ls) s p t n k
+      → Steps b m voices rows (going l ls) s p t n k

@@ -5,15 +5,16 @@ use Rattle.rows.specs.Rows.{RowData, Meaning}
 use Rattle.rows.specs.Laws.{Laws}
 use Rattle.stores.specs.Keys.{key}
 use Rattle.stores.specs.Stores.{View}
+use Rattle.stores.specs.Behaviours.{Behaviour, Decided}
 use Rattle.search.specs.Propagation.{propagated}
 use Rattle.search.specs.Search.{Place, Level, Steps}
 use Rattle.search.specs.Placed.{AllAccepted, Lawful, SameLeast}
 use Rattle.search.specs.Calls.{Table, Call, Answer, Judgement, reasons, judged, Goes, Does}
 use Rattle.search.specs.Calls.Call.{solve, read}
-use Rattle.search.specs.Histories.{History, declared, posted}
+use Rattle.search.specs.Histories.{History, calls_of, declared, posted}
 use Rattle.search.specs.Results.{Propagates, Projects, Stands, Limited, Says, finished, Reads, Budgeted, fits}
 use Rattle.search.specs.Branching.{TableLowest, Rising}
-use Rattle.search.specs.Behaviours.{Behaviour, Outcome, SameKeys, StepsNew}
+use Rattle.search.specs.Behaviours.{Outcome, SameKeys, StepsNew}
 
 -- ---- propagation and keys
 
@@ -33,55 +34,56 @@ abbrev pub KeysProject : Type 0
 KeysProject = (m : Meaning) → Laws m → (rows : List RowData) (s t : List ℕ) → AllAccepted m rows (length s) → Proper s → Proper t
     → key m rows s ≡ key m rows t → Projects m rows s t
 
--- ---- the search
+-- ---- the search, over a store with the behaviour b, which was in the state g when the table was made
 
 -- What stands after every history: a found result is the least lawful placing, none says that there is none, keys and nodes are counted right.
-abbrev pub SearchStands : Type 0
-SearchStands = (m : Meaning) → Laws m → (h : List (Call × Answer)) (t : Table) (v : View) → History m h t v → Stands m t v
+abbrev pub SearchStands : Behaviour → Type 0
+SearchStands b = (m : Meaning) → Laws m → (g : b.State) (h : List (Call × Answer)) (t : Table) (s : b.State) → History b m g h t s → Stands m t (b.view s)
 
 -- After every history, and after each node that a Solve then opens: levels and nodes branch on the lowest voice that is not fixed.
-abbrev pub BranchesLowest : Type 0
-BranchesLowest = (m : Meaning) → Laws m → (h : List (Call × Answer)) (t : Table) (v : View) → History m h t v
-    → (n : ℕ) (u : Table) (w : View) → Goes m n t v u w → TableLowest m u w
+abbrev pub BranchesLowest : Behaviour → Type 0
+BranchesLowest b = (m : Meaning) → Laws m → (g : b.State) (h : List (Call × Answer)) (t : Table) (s : b.State) → History b m g h t s
+    → (n : ℕ) (u : Table) (r : b.State) → Goes b m n t s u r → TableLowest m u (b.view r)
 
 -- So much is known of the levels with no law of the bank: the voices ascend strictly, and each is one of its node's.
-abbrev pub LevelsRise : Type 0
-LevelsRise = (m : Meaning) (h : List (Call × Answer)) (t : Table) (v : View) → History m h t v
-    → (n : ℕ) (u : Table) (w : View) → Goes m n t v u w → (l : Level) (ls : List Level) → u.place ≡ Place.going l ls → Rising (l ∷ ls)
+abbrev pub LevelsRise : Behaviour → Type 0
+LevelsRise b = (m : Meaning) (g : b.State) (h : List (Call × Answer)) (t : Table) (s : b.State) → History b m g h t s
+    → (n : ℕ) (u : Table) (r : b.State) → Goes b m n t s u r → (l : Level) (ls : List Level) → u.place ≡ Place.going l ls → Rising (l ∷ ls)
 
 -- A key that goes to the store when a node is exhausted is not held already, at every node that a Solve opens after any history.
-abbrev pub NeverTwice : Type 0
-NeverTwice = (m : Meaning) → Laws m → (h : List (Call × Answer)) (t : Table) (v : View) → History m h t v
-    → (n : ℕ) (u : Table) (w : View) → Goes m n t v u w
-    → (p : Place) (x : View) (i k : ℕ) (S : Steps m u.voices u.rows u.place w p x i k) → StepsNew S
+abbrev pub NeverTwice : Behaviour → Type 0
+NeverTwice b = (m : Meaning) → Laws m → (g : b.State) (h : List (Call × Answer)) (t : Table) (s : b.State) → History b m g h t s
+    → (n : ℕ) (u : Table) (r : b.State) → Goes b m n t s u r
+    → (p : Place) (x : b.State) (i k : ℕ) (S : Steps b m u.voices u.rows u.place r p x i k) → StepsNew S
 
 -- ---- answers
 
 -- Wherever in a history Solve answered: found p, then p is the least lawful placing of the voices and rows given before it; none, then there is none.
-abbrev pub AnswersStand : Type 0
-AnswersStand = (m : Meaning) → Laws m → (later before : List (Call × Answer)) (b : ℕ) (a : Answer) (t : Table) (v : View)
-    → History m (later ++ ((solve b, a) ∷ before)) t v → Says m (declared before) (posted m before) a
+abbrev pub AnswersStand : Behaviour → Type 0
+AnswersStand b = (m : Meaning) → Laws m → (g : b.State) (later before : List (Call × Answer)) (budget : ℕ) (a : Answer) (t : Table) (s : b.State)
+    → History b m g (later ++ ((solve budget, a) ∷ before)) t s → Says m (declared before) (posted m before) a
 
 -- Wherever Read wrote: the least lawful placing of the voices and rows given before it.
-abbrev pub ReadsStand : Type 0
-ReadsStand = (m : Meaning) → Laws m → (later before : List (Call × Answer)) (buffer : List ℕ) (n : ℕ) (b : List ℕ) (t : Table) (v : View)
-    → History m (later ++ ((read buffer, Answer.wrote n b) ∷ before)) t v → Reads m (declared before) (posted m before) buffer n b
+abbrev pub ReadsStand : Behaviour → Type 0
+ReadsStand b = (m : Meaning) → Laws m → (g : b.State) (later before : List (Call × Answer)) (buffer : List ℕ) (n : ℕ) (left : List ℕ) (t : Table) (s : b.State)
+    → History b m g (later ++ ((read buffer, Answer.wrote n left) ∷ before)) t s → Reads m (declared before) (posted m before) buffer n left
 
 -- A table's voices and rows are those that its calls have given.
-abbrev pub TablesGiven : Type 0
-TablesGiven = (m : Meaning) (h : List (Call × Answer)) (t : Table) (v : View) → History m h t v → (t.voices ≡ declared h) × (t.rows ≡ posted m h)
+abbrev pub TablesGiven : Behaviour → Type 0
+TablesGiven b = (m : Meaning) (g : b.State) (h : List (Call × Answer)) (t : Table) (s : b.State) → History b m g h t s → (t.voices ≡ declared h) × (t.rows ≡ posted m h)
 
 -- Two results of Solve, anywhere in two histories over any banks and stores, are equal exactly when the two tables have the same least lawful placing or
 -- neither has any.
-abbrev pub ResultsAgree : Type 0
-ResultsAgree = (m m' : Meaning) → Laws m → Laws m' → (later later' h h' : List (Call × Answer)) (b b' : ℕ) (a a' : Answer) (t t' : Table) (v v' : View)
-    → History m (later ++ ((solve b, a) ∷ h)) t v → History m' (later' ++ ((solve b', a') ∷ h')) t' v' → finished a ≡ true → finished a' ≡ true
+abbrev pub ResultsAgree : Behaviour → Behaviour → Type 0
+ResultsAgree b b' = (m m' : Meaning) → Laws m → Laws m' → (g : b.State) (g' : b'.State) (later later' h h' : List (Call × Answer)) (budget budget' : ℕ) (a a' : Answer)
+    (t t' : Table) (s : b.State) (s' : b'.State)
+    → History b m g (later ++ ((solve budget, a) ∷ h)) t s → History b' m' g' (later' ++ ((solve budget', a') ∷ h')) t' s' → finished a ≡ true → finished a' ≡ true
     → (a ≡ a') ↔ SameLeast m (declared h) (posted m h) m' (declared h') (posted m' h')
 
 -- An accepted Solve opens at most its budget, and says stopped exactly when it opened that many and the search is not over.
-abbrev pub SolveKeepsBudget : Type 0
-SolveKeepsBudget = (m : Meaning) (t : Table) (v : View) (b : ℕ) (a : Answer) (u : Table) (w : View)
-    → judged m t (solve b) ≡ Judgement.passes → Does m t v (solve b) a u w → Budgeted t v b a u w
+abbrev pub SolveKeepsBudget : Behaviour → Type 0
+SolveKeepsBudget b = (m : Meaning) (t : Table) (s : b.State) (budget : ℕ) (a : Answer) (u : Table) (r : b.State)
+    → judged m t (solve budget) ≡ Judgement.passes → Does b m t s (solve budget) a u r → Budgeted t budget a u × (over t.place ≡ true → r ≡ s)
 
 -- A call is declined under the smallest number that fits, and passes exactly when none does.
 abbrev pub RefusalsSmallest : Type 0
@@ -90,18 +92,25 @@ RefusalsSmallest = (m : Meaning) (t : Table) (c : Call)
     × ((judged m t c ≡ Judgement.passes) ↔ ((k : ℕ) → fits k (reasons m t c) ≡ false))
 
 -- No history passes the limits of a table.
-abbrev pub LimitsStand : Type 0
-LimitsStand = (m : Meaning) (h : List (Call × Answer)) (t : Table) (v : View) → History m h t v → Limited m t
+abbrev pub LimitsStand : Behaviour → Type 0
+LimitsStand b = (m : Meaning) (g : b.State) (h : List (Call × Answer)) (t : Table) (s : b.State) → History b m g h t s → Limited m t
 
 -- ---- stores
 
--- Over each store every call comes to something, and to one thing only.
-abbrev pub OneOutcome : Type 0
-OneOutcome = (s : Behaviour) (m : Meaning) (t : Table) (v : View) (c : Call)
-    → Outcome s m t v c × ((x y : Outcome s m t v c) → (x.answer ≡ y.answer) × (x.table ≡ y.table) × (x.view ≡ y.view))
+-- Over a store of which nothing is open, every call comes to something, and to one thing only.
+abbrev pub OneOutcome : Behaviour → Type 0
+OneOutcome b = (m : Meaning) (t : Table) (s : b.State) (c : Call)
+    → Outcome b m t s c × ((x y : Outcome b m t s c) → (x.answer ≡ y.answer) × (x.table ≡ y.table) × (x.state ≡ y.state))
+
+-- So any two histories with the same calls, over such a store in the same state, have the same answers and lead to the same table, counts and all, and the same
+-- state of the store.
+abbrev pub OneHistory : Behaviour → Type 0
+OneHistory b = (m : Meaning) (g : b.State) (h h' : List (Call × Answer)) (t t' : Table) (s s' : b.State) → History b m g h t s → History b m g h' t' s'
+    → calls_of h ≡ calls_of h' → (h ≡ h') × (t ≡ t') × (s ≡ s')
 
 -- Over any two stores that hold the same keys and lose none in this call, a call has the same answer and leaves the same table, counts and all, and the
 -- same keys. (A call other than Solve loses none.)
-abbrev pub StoresAgree : Type 0
-StoresAgree = (m : Meaning) (t : Table) (v v' : View) (c : Call) (a a' : Answer) (u u' : Table) (w w' : View) → SameKeys v v'
-    → Does m t v c a u w → Does m t v' c a' u' w' → u.lost ≤ t.lost → u'.lost ≤ t.lost → (a ≡ a') × (u ≡ u') × SameKeys w w'
+abbrev pub StoresAgree : Behaviour → Behaviour → Type 0
+StoresAgree b b' = (m : Meaning) (t : Table) (s : b.State) (s' : b'.State) (c : Call) (a a' : Answer) (u u' : Table) (r : b.State) (r' : b'.State)
+    → SameKeys (b.view s) (b'.view s') → Does b m t s c a u r → Does b' m t s' c a' u' r' → u.lost ≤ t.lost → u'.lost ≤ t.lost
+    → (a ≡ a') × (u ≡ u') × SameKeys (b.view r) (b'.view r')

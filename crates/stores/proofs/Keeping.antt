@@ -1,22 +1,48 @@
--- Keys that do not fit: a store that is not given such a key has lost nothing.
-use Rattle.std.proofs.Common.{◌≡◌, ℕ, ◌<◌, ◌≤◌, Bool, true, false, List, length, ltb, leb, refl}
-use Rattle.std.proofs.lemmas.Bool.{and_parts, ltb-true, leb-true, or_right}
-use Rattle.sets.specs.Placings.{same}
-use Rattle.stores.specs.Stores.{View, Keeps, member, fits}
+-- What a shelf's Keep answers and leaves, case by case.
+use Rattle.std.proofs.Common.{◌≡◌, ℕ, ◌<◌, ◌≤◌, Bool, true, false, cond, List, [], ◌∷◌, ◌++◌, length, ltb, leb, refl, sym, ap, ◌∙◌}
+use Rattle.std.proofs.lemmas.Bool.{and_parts, ltb-true, leb-true}
+use Rattle.stores.specs.Stores.{member, fits}
+use Rattle.stores.specs.Behaviours.{TurnsAway}
+use Rattle.stores.specs.Shelves.{ShelfState, shelf_view, shelf_after}
+use Rattle.stores.specs.ShelfLaws.{shelf}
 use Rattle.stores.specs.declared.store.Stored.{Stored}
 use Rattle.stores.specs.declared.store.Stored.TheVariants.{Kept, Lost}
 
--- a key that is not held and does not fit may be lost and alter nothing
-pub lost_alone : (v : View) (k : List ℕ) → member k v.held ≡ false → fits (length k) v.space ≡ false → Keeps v k Lost v
-lost_alone v k m f = Keeps.loses v m f (λ x h. or_right (same x k) (member x v.held) h) (λ _. refl) (λ _. refl) (record { room = refl; steady = refl })
+-- with the key behind the others
+abbrev pub pushed_state : ShelfState → List ℕ → ShelfState
+pushed_state s k = record { held = s.held ++ (k ∷ []); room = s.room }
 
--- so a key that a store turns away need not be given: there is an answer to it that leaves the store as it is
-pub turned_away : (v : View) (k : List ℕ) → fits (length k) v.space ≡ false → (r : Stored) × Keeps v k r v
-turned_away v k f = by_member (member k v.held) refl
+-- by whether the key is held, and whether it fits
+abbrev answer_at : ShelfState → List ℕ → Bool → Bool → Stored
+answer_at s k held room = cond held Kept (cond room Kept Lost)
+
+abbrev after_at : ShelfState → List ℕ → Bool → Bool → ShelfState
+after_at s k held room = cond held s (cond room (pushed_state s k) s)
+
+pub keeps_held : (s : ShelfState) (k : List ℕ) → member k s.held ≡ true → shelf.keeps s k Kept s
+keeps_held s k m = (sym (ap (λ (b : Bool). answer_at s k b (fits (length k) (shelf_view s).space)) m), sym (ap (λ (b : Bool). after_at s k b (fits (length k) (shelf_view s).space)) m))
+
+pub keeps_more : (s : ShelfState) (k : List ℕ) → member k s.held ≡ false → fits (length k) (shelf_view s).space ≡ true → shelf.keeps s k Kept (pushed_state s k)
+keeps_more s k m f =
+    (
+      sym (ap (λ (b : Bool). answer_at s k b (fits (length k) (shelf_view s).space)) m ∙ ap (λ (b : Bool). answer_at s k false b) f),
+      sym (ap (λ (b : Bool). after_at s k b (fits (length k) (shelf_view s).space)) m ∙ ap (λ (b : Bool). after_at s k false b) f),
+    )
+
+pub keeps_lost : (s : ShelfState) (k : List ℕ) → member k s.held ≡ false → fits (length k) (shelf_view s).space ≡ false → shelf.keeps s k Lost s
+keeps_lost s k m f =
+    (
+      sym (ap (λ (b : Bool). answer_at s k b (fits (length k) (shelf_view s).space)) m ∙ ap (λ (b : Bool). answer_at s k false b) f),
+      sym (ap (λ (b : Bool). after_at s k b (fits (length k) (shelf_view s).space)) m ∙ ap (λ (b : Bool). after_at s k false b) f),
+    )
+
+-- keys of so many words do not fit
+pub turned_away : (s : ShelfState) (words : ℕ) → fits words (shelf_view s).space ≡ false → TurnsAway shelf s words
+turned_away s words f k e = by_member (member k s.held) refl
   where
-    by_member : (b : Bool) → member k v.held ≡ b → (r : Stored) × Keeps v k r v
-    by_member true e = (Kept, Keeps.again e)
-    by_member false e = (Lost, lost_alone v k e f)
+    by_member : (b : Bool) → member k s.held ≡ b → shelf.keeps s k (cond b Kept Lost) s
+    by_member true m = keeps_held s k m
+    by_member false m = keeps_lost s k m (ap (λ (n : ℕ). fits n (shelf_view s).space) e ∙ f)
 
 -- what a key that fits shows of its length
 pub record Fitting (words space : ℕ) : Type 0 where

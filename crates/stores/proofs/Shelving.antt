@@ -5,10 +5,10 @@ use Rattle.std.proofs.lemmas.Bool.{cases_Bool, and_right, lt-leb, eqb-true, eqb-
 use Rattle.std.proofs.Math.Seq.{get_or-append_seam}
 use Rattle.std.specs.Str.{bytes_eq}
 use Rattle.sets.specs.Placings.{same}
-use Rattle.stores.specs.Stores.{member, Joined, Keeps, fits}
-use Rattle.stores.specs.Shelves.{hash_of, bucket, header, words_of, newest, entry, written, keys_in, shelved, recent, Whole, Indexed, room_of, shelf_view}
-use Rattle.stores.specs.declared.store.Stored.TheVariants.{Kept}
-use Rattle.stores.proofs.Keeping.{Fitting, fitting}
+use Rattle.stores.specs.Stores.{member, fits}
+use Rattle.stores.specs.Shelves.{hash_of, bucket, header, words_of, newest, entry, written, keys_in, shelved, recent, Whole, Indexed, room_of, ShelfState, shelf_state, shelf_view}
+use Rattle.stores.specs.ShelfLaws.{member_push}
+use Rattle.stores.proofs.Keeping.{Fitting, fitting, pushed_state}
 use Rattle.sets.proofs.Lists.{same_is}
 
 -- ---- the same words
@@ -135,26 +135,9 @@ recent_push ws k w h = ap reverse (shelved_push ws k w h) ∙ reverse_push (shel
 pub whole_push : (ws k : List ℕ) → Whole ws → length k < 65536 → Whole (ws ++ entry (recent ws) k)
 whole_push ws k w h = ap written (recent_push ws k w h) ∙ ap (λ (x : List ℕ). x ++ entry (recent ws) k) w
 
-member_push : (x k : List ℕ) (ks : List (List ℕ)) → member x (ks ++ (k ∷ [])) ≡ (same x k || member x ks)
-member_push x k [] = refl
-member_push x k (y ∷ ks) = ap (λ (b : Bool). same x y || b) (member_push x k ks) ∙ swap (same x y) (same x k) (member x ks)
-  where
-    swap : (a b c : Bool) → (a || (b || c)) ≡ (b || (a || c))
-    swap true true c = refl
-    swap true false c = refl
-    swap false b c = refl
-
 member_reverse : (x : List ℕ) (ks : List (List ℕ)) → member x (reverse ks) ≡ member x ks
 member_reverse x [] = refl
 member_reverse x (k ∷ ks) = ap (member x) (reverse_more ks k) ∙ member_push x k (reverse ks) ∙ ap (λ (b : Bool). same x k || b) (member_reverse x ks)
-
-joined_by : (ws k : List ℕ) (room : ℕ) → Whole ws → length k < 65536 → Joined (shelf_view ws room) k (shelf_view (ws ++ entry (recent ws) k) room)
-joined_by ws k room w h = record {
-  members = λ x. ap (member x) (shelved_push ws k w h) ∙ member_push x k (shelved ws);
-  count = ap length (shelved_push ws k w h) ∙ length-append (shelved ws) (k ∷ []);
-  taken = λ _. omega (arith, length-append ws (entry (recent ws) k));
-  later = record { room = refl; steady = refl };
-}
 
 -- ---- the chain of a bucket
 
@@ -373,13 +356,28 @@ pushed all rest used now k h f n e = record {
     same_long = ap length e ∙ length-append (take used all ++ entry (recent (take used all)) k) (drop (used + 1 + length k) all)
         ∙ omega (arith, roomy, long, length-drop (used + 1 + length k) all)
 
+-- ---- the state of a shelf, by its words
+
+words_push : (ks : List (List ℕ)) (k : List ℕ) → words_of (ks ++ (k ∷ [])) ≡ words_of ks + (1 + length k)
+words_push [] k = refl
+words_push (x ∷ ks) k = omega (arith, words_push ks k)
+
+words_reverse : (ks : List (List ℕ)) → words_of (reverse ks) ≡ words_of ks
+words_reverse [] = refl
+words_reverse (k ∷ ks) = ap words_of (reverse_more ks k) ∙ words_push (reverse ks) k ∙ ap (λ (n : ℕ). n + (1 + length k)) (words_reverse ks)
+
+-- its keys take just these words
+pub words_taken : (ws : List ℕ) → Whole ws → words_of (shelved ws) ≡ length ws
+words_taken ws w = sym (words_reverse (shelved ws)) ∙ sym (words_long (recent ws)) ∙ ap length w
+
+pub space_free : (ws : List ℕ) (room : ℕ) → Whole ws → (shelf_view (shelf_state ws room)).space ≡ room - length ws - 1
+space_free ws room w = ap (λ (n : ℕ). room - n - 1) (words_taken ws w)
+
 -- a key that fits joins the others
-pub kept_more : (ws vs rest all k : List ℕ) → Whole ws → length ws ≤ length all → member k (shelved ws) ≡ false → fits (length k) (room_of (length all) - length ws - 1) ≡ true
-    → vs ≡ ws ++ entry (recent ws) k → rest ≡ vs ++ drop (length vs) all → Keeps (shelf_view ws (room_of (length all))) k Kept (shelf_view vs (room_of (length rest)))
-kept_more ws vs rest all k w l m f e d =
-    subst (λ (x : List ℕ). Keeps (shelf_view ws (room_of (length all))) k Kept (shelf_view x (room_of (length rest)))) (sym e)
-    (subst (λ (x : ℕ). Keeps (shelf_view ws (room_of (length all))) k Kept (shelf_view (ws ++ entry (recent ws) k) (room_of x))) (sym same_long)
-    (Keeps.joins (shelf_view (ws ++ entry (recent ws) k) (room_of (length all))) m f (joined_by ws k (room_of (length all)) w (omega (arith, fit.some, fit.within)))))
+pub state_more : (ws vs rest all k : List ℕ) → Whole ws → length ws ≤ length all → fits (length k) (room_of (length all) - length ws - 1) ≡ true
+    → vs ≡ ws ++ entry (recent ws) k → rest ≡ vs ++ drop (length vs) all → shelf_state vs (room_of (length rest)) ≡ pushed_state (shelf_state ws (room_of (length all))) k
+state_more ws vs rest all k w l f e d =
+    ap₂ shelf_state e (ap room_of same_long) ∙ ap (λ (x : List (List ℕ)). record { held = x; room = room_of (length all) }) (shelved_push ws k w (omega (arith, fit.some, fit.within)))
   where
     fit : Fitting (length k) (room_of (length all) - length ws - 1)
     fit = fitting (length k) (room_of (length all) - length ws - 1) f

@@ -1,5 +1,7 @@
 pub mod Keys
 pub mod Stores
-pub mod Shelves
+pub mod Behaviours
 pub mod Bare
+pub mod Shelves
+pub mod ShelfLaws
 pub mod Shown

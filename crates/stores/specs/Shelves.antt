@@ -1,5 +1,5 @@
 -- The shelf: keys one after the other in lent words, each behind a header word.
-use Rattle.std.specs.Prelude.{◌≡◌, ℕ, zero, suc, ◌+◌, ◌-◌, ◌*◌, ◌/◌, ◌%◌, ◌^◌, ◌<◌, min, true, cond, nat_eq, List, [], ◌∷◌, ◌++◌, length, take, drop, reverse, slice_index}
+use Rattle.std.specs.Prelude.{◌≡◌, ℕ, zero, suc, ◌+◌, ◌-◌, ◌*◌, ◌/◌, ◌%◌, ◌^◌, ◌<◌, min, cond, nat_eq, List, [], ◌∷◌, ◌++◌, length, take, drop, reverse, slice_index}
 use Rattle.stores.specs.Stores.{View, member, fits}
 use Rattle.stores.specs.declared.store.Stored.{Stored}
 use Rattle.stores.specs.declared.store.Stored.TheVariants.{Kept, Lost}
@@ -70,13 +70,29 @@ Whole ws = written (recent ws) ≡ ws
 abbrev pub Indexed : List ℕ → List ℕ → Type 0
 Indexed heads ws = (b : ℕ) → b < 1024 → slice_index heads b ≡ newest b (recent ws)
 
--- a shelf by the words that are used and how many may be
-abbrev pub shelf_view : List ℕ → ℕ → View
-shelf_view used room = record { held = shelved used; space = room - length used - 1; room = room - 1; steady = true }
+-- a shelf, by the keys that it holds, the oldest first, and how many words it may use
+pub record ShelfState : Type 0 where
+  pub held : List (List ℕ)
+  pub room : ℕ
 
--- what keeping a key answers, and the words used then: a held key moves nothing, one that fits goes behind the others, a lost one alters nothing
-abbrev pub shelf_keep : List ℕ → ℕ → List ℕ → Stored
-shelf_keep used room k = cond (member k (shelved used)) Kept (cond (fits (length k) (room - length used - 1)) Kept Lost)
+-- the state of a shelf with these words used
+abbrev pub shelf_state : List ℕ → ℕ → ShelfState
+shelf_state used room = record { held = shelved used; room = room }
 
-abbrev pub shelf_after : List ℕ → ℕ → List ℕ → List ℕ
-shelf_after used room k = cond (member k (shelved used)) used (cond (fits (length k) (room - length used - 1)) (used ++ entry (recent used) k) used)
+-- each key takes a word more than its own, and so would the next
+abbrev pub shelf_view : ShelfState → View
+shelf_view s = record { held = s.held; space = s.room - words_of s.held - 1 }
+
+abbrev pub shelf_emptied : ShelfState → ShelfState
+shelf_emptied s = record { held = []; room = s.room }
+
+-- what Keep answers and leaves: a held key moves nothing, one that fits goes behind the others, a lost one alters nothing
+abbrev pub shelf_answer : ShelfState → List ℕ → Stored
+shelf_answer s k = cond (member k s.held) Kept (cond (fits (length k) (shelf_view s).space) Kept Lost)
+
+abbrev pub shelf_after : ShelfState → List ℕ → ShelfState
+shelf_after s k = cond (member k s.held) s (cond (fits (length k) (shelf_view s).space) (record { held = s.held ++ (k ∷ []); room = s.room }) s)
+
+-- and the words that are used then
+abbrev pub used_after : List ℕ → ℕ → List ℕ → List ℕ
+used_after used room k = cond (member k (shelved used)) used (cond (fits (length k) (room - length used - 1)) (used ++ entry (recent used) k) used)

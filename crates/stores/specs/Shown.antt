@@ -1,8 +1,7 @@
 -- What a shelf's fields say.
-use Rattle.std.specs.Prelude.{ℕ, List, length, take}
+use Rattle.std.specs.Prelude.{ℕ, ◌-◌, List, length, take}
 use Rattle.stores.specs.declared.shelf.Shelf.{Shelf}
-use Rattle.stores.specs.Stores.{View}
-use Rattle.stores.specs.Shelves.{room_of, shelf_view}
+use Rattle.stores.specs.Shelves.{room_of, ShelfState, shelf_state}
 
 -- the words that hold keys, and how many may
 abbrev pub used_words : Shelf → List ℕ
@@ -11,5 +10,9 @@ used_words s = take s.used s.words.now
 abbrev pub room : Shelf → ℕ
 room s = room_of (length s.words.now)
 
-abbrev pub view_of : Shelf → View
-view_of s = shelf_view (used_words s) (room s)
+abbrev pub state_of : Shelf → ShelfState
+state_of s = shelf_state (used_words s) (room s)
+
+-- how many words a key may have that fits
+abbrev pub free : Shelf → ℕ
+free s = room s - length (used_words s) - 1

@@ -1,8 +1,7 @@
 // The store that holds nothing.
-ghost use Rattle.std.specs.Prelude.{◌≡◌, IsTrue, [], true, false};
-ghost use Rattle.stores.specs.Stores.{Keeps, fits};
-ghost use Rattle.stores.specs.Bare.{nothing};
-ghost use Rattle.stores.specs.declared.store.Stored.TheVariants.{Lost};
+ghost use Rattle.std.specs.Prelude.{◌≡◌, IsTrue, [], true};
+ghost use Rattle.stores.specs.Behaviours.{TurnsAway};
+ghost use Rattle.stores.specs.Bare.{bare};
 
 use crate::store::{Store, Stored};
 
@@ -10,7 +9,9 @@ use crate::store::{Store, Stored};
 pub struct Bare;
 
 impl Store for Bare {
-    ghost view = { λ _. nothing };
+    ghost behaviour = { bare };
+
+    ghost state = { λ _. tt };
 
     fn clear(&mut self) {}
 
@@ -18,22 +19,22 @@ impl Store for Bare {
         false
     }
 
-    fn is_empty(&self) -> bool {
+    fn is_empty(&self) -> bool
+        ensures holds_none { IsTrue result → ((bare.view tt).held ≡ []) }
+        ensures value { result ≡ true }
+    {
         true
     }
 
     fn turns_away(&self, words: usize) -> bool
-        ensures turned { IsTrue result → (fits words nothing.space ≡ false) }
+        ensures turned { IsTrue result → TurnsAway bare tt words }
         ensures value { result ≡ true }
     {
         // every key is lost
         true
     }
 
-    fn keep(&mut self, key: &[u64]) -> Stored
-        ensures keeps { Keeps nothing key.now result nothing }
-        ensures value { result ≡ Lost }
-    {
+    fn keep(&mut self, key: &[u64]) -> Stored {
         Stored::Lost
     }
 }

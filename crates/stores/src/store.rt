@@ -1,6 +1,7 @@
-// What a store of failed nodes' keys owes.
-ghost use Rattle.std.specs.Prelude.{◌≡◌, ◌↔◌, IsTrue, [], false};
-ghost use Rattle.stores.specs.Stores.{View, Emptied, Keeps, member, fits};
+// What a store of failed nodes' keys owes, and that each store says what it does.
+ghost use Rattle.std.specs.Prelude.{◌≡◌, IsTrue, []};
+ghost use Rattle.stores.specs.Stores.{member};
+ghost use Rattle.stores.specs.Behaviours.{Behaviour, TurnsAway};
 
 // What became of a key.
 #[derive(Clone, Copy, Debug, PartialEq, Eq)]
@@ -10,26 +11,30 @@ pub enum Stored {
 }
 
 pub trait Store {
-    // the keys that it holds, the words that it has left and has in all, and whether it is steady
-    ghost view: { Self → View };
+    // what it does, which is within what any store may do
+    ghost behaviour: { Behaviour };
+
+    // the state that a store is in
+    ghost state: { Self → behaviour.State };
 
     // Leaves no keys.
     fn clear(&mut self)
-        ensures { Emptied (view self.old) (view self.new) };
+        ensures { behaviour.empties (state self.old) (state self.new) };
 
     // Whether the key is held.
     fn find(&self, key: &[u64]) -> bool
-        ensures { result ≡ member key.now (view self.now).held };
+        ensures { result ≡ member key.now (behaviour.view (state self.now)).held };
 
-    // Whether no key is held, so that a lookup needs none.
+    // Whether no key is held, so that a lookup needs none. A store may always answer that it may hold some.
     fn is_empty(&self) -> bool
-        ensures { IsTrue result ↔ ((view self.now).held ≡ []) };
+        ensures { IsTrue result → ((behaviour.view (state self.now)).held ≡ []) };
 
-    // Whether a key of so many words does not fit, and need not be given. A store may answer no at any time, and must where a key that does not fit alters it.
+    // Whether a key of so many words need not be given: asked to keep it, the store would alter nothing, and a key that it does not hold would be lost. A store may
+    // always answer no, and has to where such a key would alter it.
     fn turns_away(&self, words: usize) -> bool
-        ensures { IsTrue result → (fits words (view self.now).space ≡ false) };
+        ensures { IsTrue result → TurnsAway behaviour (state self.now) words };
 
     // Takes the key in if it is held already or fits.
     fn keep(&mut self, key: &[u64]) -> Stored
-        ensures { Keeps (view self.old) key.now result (view self.new) };
+        ensures { behaviour.keeps (state self.old) key.now result (state self.new) };
 }

@@ -1,8 +1,10 @@
 // What a shelf does.
-ghost use Rattle.std.specs.Prelude.{◌≡◌, ℕ, ◌+◌, ◌<◌, ◌≤◌, slice_index, [], ◌∷◌, ◌++◌, length, drop, IsTrue, false, true, not};
-ghost use Rattle.stores.specs.Stores.{Emptied, Keeps, member, fits};
-ghost use Rattle.stores.specs.Shelves.{hash_of, shelved, recent, entry, shelf_keep, shelf_after};
-ghost use Rattle.stores.specs.Shown.{used_words, room, view_of};
+ghost use Rattle.std.specs.Prelude.{◌≡◌, ℕ, ◌+◌, ◌<◌, ◌≤◌, ◌==◌, slice_index, [], ◌∷◌, ◌++◌, length, drop, IsTrue, true, not};
+ghost use Rattle.stores.specs.Stores.{member, fits};
+ghost use Rattle.stores.specs.Behaviours.{TurnsAway};
+ghost use Rattle.stores.specs.Shelves.{hash_of, shelved, recent, entry, used_after};
+ghost use Rattle.stores.specs.ShelfLaws.{shelf};
+ghost use Rattle.stores.specs.Shown.{used_words, room, state_of, free};
 
 use crate::shelf::{BUCKETS, Shelf};
 use crate::store::{Store, Stored};
@@ -43,7 +45,7 @@ impl<'a> Shelf<'a> {
 
     // Whether a key of so many words fits.
     fn fits(&self, words: usize) -> bool
-        ensures { result ≡ fits words (view_of self.now).space }
+        ensures { result ≡ fits words (free self.now) }
     {
         words > 0 && words < self.words.len().min(MOST_WORDS) - self.used
     }
@@ -82,7 +84,7 @@ impl<'a> Shelf<'a> {
     // Takes in a key that fits, at the head of its bucket's chain.
     fn add(&mut self, hash: u64, key: &[u64])
         requires hash { hash ≡ hash_of key.now }
-        requires fits { fits (length key.now) (view_of self.old).space ≡ true }
+        requires fits { fits (length key.now) (free self.old) ≡ true }
         ensures used { used_words self.new ≡ used_words self.old ++ entry (recent (used_words self.old)) key.now }
         ensures words { self.new.words.now ≡ used_words self.new ++ drop (length (used_words self.new)) self.old.words.now }
     {
@@ -96,10 +98,12 @@ impl<'a> Shelf<'a> {
 }
 
 impl<'a> Store for Shelf<'a> {
-    ghost view = { view_of };
+    ghost behaviour = { shelf };
+
+    ghost state = { state_of };
 
     fn clear(&mut self)
-        ensures empties { Emptied (view_of self.old) (view_of self.new) }
+        ensures empties { shelf.empties (state_of self.old) (state_of self.new) }
         ensures used { used_words self.new ≡ [] }
         ensures words { self.new.words.now ≡ self.old.words.now }
     {
@@ -111,21 +115,23 @@ impl<'a> Store for Shelf<'a> {
         self.holds(hash_words(key), key)
     }
 
-    fn is_empty(&self) -> bool {
+    fn is_empty(&self) -> bool
+        ensures holds_none { IsTrue result → ((state_of self.now).held ≡ []) }
+        ensures value { result ≡ (length (used_words self.now) == 0) }
+    {
         self.used == 0
     }
 
     fn turns_away(&self, words: usize) -> bool
-        ensures turned { IsTrue result → (fits words (view_of self.now).space ≡ false) }
-        ensures value { result ≡ not (fits words (view_of self.now).space) }
+        ensures turned { IsTrue result → TurnsAway shelf (state_of self.now) words }
+        ensures value { result ≡ not (fits words (free self.now)) }
     {
         !self.fits(words)
     }
 
     fn keep(&mut self, key: &[u64]) -> Stored
-        ensures keeps { Keeps (view_of self.old) key.now result (view_of self.new) }
-        ensures value { result ≡ shelf_keep (used_words self.old) (room self.old) key.now }
-        ensures used { used_words self.new ≡ shelf_after (used_words self.old) (room self.old) key.now }
+        ensures keeps { shelf.keeps (state_of self.old) key.now result (state_of self.new) }
+        ensures used { used_words self.new ≡ used_after (used_words self.old) (room self.old) key.now }
         ensures words { self.new.words.now ≡ used_words self.new ++ drop (length (used_words self.new)) self.old.words.now }
     {
         let hash = hash_words(key);

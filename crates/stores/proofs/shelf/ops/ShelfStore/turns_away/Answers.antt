@@ -1,0 +1,12 @@
+use Rattle.std.proofs.Common.{◌≡◌, false, IsTrue, not, sym, ap, ◌∙◌, arith}
+use Rattle.stores.specs.Stores.{fits}
+use Rattle.stores.specs.Shown.{used_words, room, state_of}
+use Rattle.stores.proofs.Keeping.{turned_away}
+use Rattle.stores.proofs.Shelving.{space_free}
+use Rattle.stores.proofs.shelf.ops.ShelfStore.turns_away.Goals as goal
+
+pub returns-clause-turned : goal.returns-clause-turned
+returns-clause-turned c h =
+    let s = c.args.self.now in
+    let short : c.fits.result ≡ false = grind arith in
+    turned_away (state_of s) c.args.words (ap (fits c.args.words) (space_free (used_words s) (room s) s.whole) ∙ sym c.fits.ensures ∙ short)
