@@ -7,6 +7,7 @@ use Rattle.rows.specs.Rows.{RowData, Meaning}
 use Rattle.rows.specs.Laws.{Laws}
 use Rattle.rows.specs.Bytes.{Bytes, decode}
 use Rattle.stores.specs.Stores.{View}
+use Rattle.search.proofs.AnyStore.{any}
 use Rattle.search.specs.Search.{Place, Steps}
 use Rattle.search.specs.Calls.{Table, Call, Answer, Formed, Judgement, reasons, judged, over, says, result, Goes, Solved, Does}
 use Rattle.search.specs.Histories.{History, declared, posted}
@@ -18,7 +19,7 @@ use Rattle.search.proofs.SetParts.{under}
 
 -- ---- Solve and its budget
 
-pub steps_not_over : {m : Meaning} {voices : List ℕ} {rows : List RowData} {p : Place} {v : View} {q : Place} {w : View} {n k : ℕ} → Steps m voices rows p v q w n k → over p ≡ false
+pub steps_not_over : {m : Meaning} {voices : List ℕ} {rows : List RowData} {p : Place} {v : View} {q : Place} {w : View} {n k : ℕ} → Steps any m voices rows p v q w n k → over p ≡ false
 steps_not_over (Steps.first v w p n k O) = refl
 steps_not_over (Steps.again l ls v w p n k O) = refl
 
@@ -28,11 +29,11 @@ pub record Unaltered (n : ℕ) (t u : Table) : Type 0 where
   pub rows : u.rows ≡ t.rows
   pub opened : u.opened ≡ t.opened + n
 
-pub goes_kept : {m : Meaning} {n : ℕ} {t : Table} {v : View} {u : Table} {w : View} → Goes m n t v u w → Unaltered n t u
+pub goes_kept : {m : Meaning} {n : ℕ} {t : Table} {v : View} {u : Table} {w : View} → Goes any m n t v u w → Unaltered n t u
 goes_kept (Goes.stay t v) = record { voices = refl; rows = refl; opened = omega arith }
 goes_kept (Goes.more b t u v w x p n k S G) = let r = goes_kept G in record { voices = r.voices; rows = r.rows; opened = omega (arith, r.opened) }
 
-goes_over : {m : Meaning} {n : ℕ} {t : Table} {v : View} {u : Table} {w : View} → Goes m n t v u w → over t.place ≡ true → (u ≡ t) × (w ≡ v)
+goes_over : {m : Meaning} {n : ℕ} {t : Table} {v : View} {u : Table} {w : View} → Goes any m n t v u w → over t.place ≡ true → (u ≡ t) × (w ≡ v)
 goes_over (Goes.stay t v) o = (refl, refl)
 goes_over (Goes.more b t u v w x p n k S G) o = absurd (both_ways (over t.place) (steps_not_over S) o)
 
@@ -56,7 +57,7 @@ open_stops (Place.going l ls) e = refl
 open_stops (Place.found p) e = absurd (both_ways true e refl)
 open_stops Place.none e = absurd (both_ways true e refl)
 
-solved : (m : Meaning) (t : Table) (v : View) (b : ℕ) (u : Table) (w : View) → Solved m b t v u w → Budgeted t v b (says u.place) u w
+solved : (m : Meaning) (t : Table) (v : View) (b : ℕ) (u : Table) (w : View) → Solved any m b t v u w → Budgeted t b (says u.place) u
 solved m t v b u w S =
     let k = goes_kept S.goes in
     record {
@@ -71,11 +72,11 @@ solved m t v b u w S =
       answer = refl;
       same_voices = k.voices;
       same_rows = k.rows;
-      repeats = goes_over S.goes;
+      repeats = λ o. (goes_over S.goes o).0;
     }
 
 pub solve_keeps_budget : (m : Meaning) (t : Table) (v : View) (b : ℕ) (a : Answer) (u : Table) (w : View)
-    → judged m t (solve b) ≡ Judgement.passes → Does m t v (solve b) a u w → Budgeted t v b a u w
+    → judged m t (solve b) ≡ Judgement.passes → Does any m t v (solve b) a u w → Budgeted t b a u
 solve_keeps_budget m t v b a u w j (Does.declines c n d) = absurd (not_both d j)
 solve_keeps_budget m t v b a u w j (Does.solves b' u' w' _ S) = solved m t v b u w S
 
@@ -99,7 +100,7 @@ refused_rows m t h wipe n j = absurd (not_both j refl)
 abbrev Given : Meaning → List (Call × Answer) → Table → Type 0
 Given m h t = (declared h ≡ t.voices) × (posted m h ≡ t.rows)
 
-given_after : {m : Meaning} {t : Table} {v : View} {c : Call} {a : Answer} {u : Table} {w : View} (h : List (Call × Answer)) → Does m t v c a u w → Given m h t → Given m ((c, a) ∷ h) u
+given_after : {m : Meaning} {t : Table} {v : View} {c : Call} {a : Answer} {u : Table} {w : View} (h : List (Call × Answer)) → Does any m t v c a u w → Given m h t → Given m ((c, a) ∷ h) u
 given_after {m} {t} h (Does.declines c n j) g = (refused_voices m t h c n j ∙ g.0, refused_rows m t h c n j ∙ g.1)
 given_after h (Does.declares s w j e) g = (ap (λ (x : List ℕ). x ++ (s ∷ [])) g.0, g.1)
 given_after {m} h (Does.posts bs w j e) g = (g.0, ap (λ (x : List RowData). x ++ (decode m bs ∷ [])) g.1)
@@ -107,18 +108,18 @@ given_after h (Does.wipes w e) g = (refl, refl)
 given_after h (Does.solves b u w j S) g = let k = goes_kept S.goes in (g.0 ∙ sym k.voices, g.1 ∙ sym k.rows)
 given_after h (Does.reads buffer p j e) g = g
 
-given : {m : Meaning} {h : List (Call × Answer)} {t : Table} {v : View} → History m h t v → Given m h t
+given : {m : Meaning} {g : View} {h : List (Call × Answer)} {t : Table} {v : View} → History any m g h t v → Given m h t
 given (History.made v e) = (refl, refl)
 given (History.then h t u v w c a H o d) = given_after h d (given H)
 
 -- ---- answers
 
 -- the last call of a history
-abbrev Last : Meaning → List (Call × Answer) → Table → View → Type 0
-Last m [] u w = Unit {0}
-Last m (x ∷ h) u w = (t : Table) × (v : View) × History m h t v × Does m t v x.0 x.1 u w × Formed x.0
+abbrev Last : Meaning → View → List (Call × Answer) → Table → View → Type 0
+Last m g [] u w = Unit {0}
+Last m g (x ∷ h) u w = (t : Table) × (v : View) × History any m g h t v × Does any m t v x.0 x.1 u w × Formed x.0
 
-last : {m : Meaning} {h : List (Call × Answer)} {t : Table} {v : View} → History m h t v → Last m h t v
+last : {m : Meaning} {h : List (Call × Answer)} {t : Table} {v : View} → {g : View} → History any m g h t v → Last m g h t v
 last (History.made v e) = tt
 last (History.then h t u v w c a H o d) = (t, v, H, d, o)
 
@@ -128,23 +129,23 @@ says_of m t v s (Place.going l ls) e = tt
 says_of m t v s (Place.found p) e = s.found_least p e
 says_of m t v s Place.none e = s.none_lawful e
 
-says_after : (m : Meaning) (t : Table) (v : View) (b : ℕ) (a : Answer) (u : Table) (w : View) → Does m t v (solve b) a u w → Stands m u w → Says m u.voices u.rows a
+says_after : (m : Meaning) (t : Table) (v : View) (b : ℕ) (a : Answer) (u : Table) (w : View) → Does any m t v (solve b) a u w → Stands m u w → Says m u.voices u.rows a
 says_after m t v b a u w (Does.declines c n d) s = tt
 says_after m t v b a u w (Does.solves b' u' w' _ S) s = says_of m u w s u.place refl
 
 answer_stands : (m : Meaning) → Laws m → (h : List (Call × Answer)) (b : ℕ) (a : Answer) (t : Table) (v : View)
-    → History m ((solve b, a) ∷ h) t v → Says m (declared h) (posted m h) a
+    → {g : View} → History any m g ((solve b, a) ∷ h) t v → Says m (declared h) (posted m h) a
 answer_stands m L h b a t v H =
     let g = given H in
     let (x, y, _, d, _) = last H in
     subst₂ (λ (vs : List ℕ) (rs : List RowData). Says m vs rs a) (sym g.0) (sym g.1) (says_after m x y b a t v d (search_stands m L ((solve b, a) ∷ h) t v H))
 
 pub answers_stand : (m : Meaning) → Laws m → (later before : List (Call × Answer)) (b : ℕ) (a : Answer) (t : Table) (v : View)
-    → History m (later ++ ((solve b, a) ∷ before)) t v → Says m (declared before) (posted m before) a
+    → {g : View} → History any m g (later ++ ((solve b, a) ∷ before)) t v → Says m (declared before) (posted m before) a
 answers_stand m L [] before b a t v H = answer_stands m L before b a t v H
 answers_stand m L (x ∷ later) before b a t v H = let (t', v', G, _, _) = last H in answers_stand m L later before b a t' v' G
 
-pub tables_given : (m : Meaning) (h : List (Call × Answer)) (t : Table) (v : View) → History m h t v → (t.voices ≡ declared h) × (t.rows ≡ posted m h)
+pub tables_given : (m : Meaning) (h : List (Call × Answer)) (t : Table) (v : View) → {g : View} → History any m g h t v → (t.voices ≡ declared h) × (t.rows ≡ posted m h)
 tables_given m h t v H = let g = given H in (sym g.0, sym g.1)
 
 -- ---- the values that Read wrote
@@ -172,14 +173,14 @@ Wrote m t v buffer Answer.none = Unit {0}
 Wrote m t v buffer Answer.stopped = Unit {0}
 Wrote m t v buffer (Answer.wrote n b) = (p : List ℕ) × (t.place ≡ Place.found p) × (length p ≤ length buffer) × (n ≡ length p) × (b ≡ p ++ drop (length p) buffer)
 
-wrote : (m : Meaning) (t : Table) (v : View) (buffer : List ℕ) (a : Answer) (u : Table) (w : View) → Does m t v (read buffer) a u w → Wrote m t v buffer a × (u ≡ t)
+wrote : (m : Meaning) (t : Table) (v : View) (buffer : List ℕ) (a : Answer) (u : Table) (w : View) → Does any m t v (read buffer) a u w → Wrote m t v buffer a × (u ≡ t)
 wrote m t v buffer a u w (Does.declines c n d) = (tt, refl)
 wrote m t v buffer a u w (Does.reads b p j e) =
     let f = ltb-false (length buffer) (length (result t.place)) (none_fits (reasons m t (read buffer)) j).1.0 in
     ((p, e, subst (λ (x : Place). length (result x) ≤ length buffer) e f, refl, refl), refl)
 
 read_stands : (m : Meaning) → Laws m → (h : List (Call × Answer)) (buffer : List ℕ) (n : ℕ) (b : List ℕ) (t : Table) (v : View)
-    → History m ((read buffer, Answer.wrote n b) ∷ h) t v → Reads m (declared h) (posted m h) buffer n b
+    → {g : View} → History any m g ((read buffer, Answer.wrote n b) ∷ h) t v → Reads m (declared h) (posted m h) buffer n b
 read_stands m L h buffer n b t v H =
     let g = given H in
     let (x, y, G, d, fo) = last H in
@@ -201,7 +202,7 @@ read_stands m L h buffer n b t v H =
     })
 
 pub reads_stand : (m : Meaning) → Laws m → (later before : List (Call × Answer)) (buffer : List ℕ) (n : ℕ) (b : List ℕ) (t : Table) (v : View)
-    → History m (later ++ ((read buffer, Answer.wrote n b) ∷ before)) t v → Reads m (declared before) (posted m before) buffer n b
+    → {g : View} → History any m g (later ++ ((read buffer, Answer.wrote n b) ∷ before)) t v → Reads m (declared before) (posted m before) buffer n b
 reads_stand m L [] before buffer n b t v H = read_stands m L before buffer n b t v H
 reads_stand m L (x ∷ later) before buffer n b t v H = let (t', v', G, _, _) = last H in reads_stand m L later before buffer n b t' v' G
 
@@ -251,7 +252,7 @@ result_none m vs rs Answer.stopped f x l = absurd (both_ways false refl f)
 result_none m vs rs (Answer.wrote n b) f x l = absurd x
 
 pub results_agree : (m m' : Meaning) → Laws m → Laws m' → (later later' h h' : List (Call × Answer)) (b b' : ℕ) (a a' : Answer) (t t' : Table) (v v' : View)
-    → History m (later ++ ((solve b, a) ∷ h)) t v → History m' (later' ++ ((solve b', a') ∷ h')) t' v' → finished a ≡ true → finished a' ≡ true
+    → {g : View} → History any m g (later ++ ((solve b, a) ∷ h)) t v → {g' : View} → History any m' g' (later' ++ ((solve b', a') ∷ h')) t' v' → finished a ≡ true → finished a' ≡ true
     → (a ≡ a') ↔ SameLeast m (declared h) (posted m h) m' (declared h') (posted m' h')
 results_agree m m' L L' later later' h h' b b' a a' t t' v v' H H' f f' =
     let x = answers_stand m L later h b a t v H in

@@ -8,6 +8,7 @@ use Rattle.rows.specs.Rows.{RowData, Meaning}
 use Rattle.rows.specs.Laws.{Laws}
 use Rattle.stores.specs.Keys.{key}
 use Rattle.stores.specs.Stores.{member, View}
+use Rattle.search.proofs.AnyStore.{any}
 use Rattle.search.specs.Search.{Level, Place, Node, Lowest, below, first_open, level_of, node, child, taken, BacksUp, Opens, Steps}
 use Rattle.search.specs.Propagation.{propagated}
 use Rattle.search.specs.Calls.{Table, Call, Answer, Goes, Does}
@@ -116,8 +117,8 @@ fit_looks m L t v f =
       next = x.1;
     }
 
-pub branches_lowest : (m : Meaning) → Laws m → (h : List (Call × Answer)) (t : Table) (v : View) → History m h t v
-    → (n : ℕ) (u : Table) (w : View) → Goes m n t v u w → TableLowest m u w
+pub branches_lowest : (m : Meaning) → Laws m → (h : List (Call × Answer)) (t : Table) (v : View) → {g : View} → History any m g h t v
+    → (n : ℕ) (u : Table) (w : View) → Goes any m n t v u w → TableLowest m u w
 branches_lowest m L h t v H n u w G = fit_looks m L u w (goes m L G (fit m L H))
 
 -- ---- with no law of the bank
@@ -133,13 +134,13 @@ PlaceRises (going l ls) = Rising (l ∷ ls)
 PlaceRises (Place.found p) = Unit {0}
 PlaceRises Place.none = Unit {0}
 
-rise_back : {m : Meaning} {rows : List RowData} {ls : List Level} {v : View} {p : Place} {w : View} {n k : ℕ} → BacksUp m rows ls v p w n k → Rising ls → PlaceRises p
+rise_back : {m : Meaning} {rows : List RowData} {ls : List Level} {v : View} {p : Place} {w : View} {n k : ℕ} → BacksUp any m rows ls v p w n k → Rising ls → PlaceRises p
 rise_back (BacksUp.root v) r = tt
 rise_back (BacksUp.next l ls v z) r = r
 rise_back (BacksUp.keeps l ls v w u p n k z K B) r = rise_back B r.2
 rise_back (BacksUp.loses l ls v w u p n k z K B) r = rise_back B r.2
 
-rise_opens : {m : Meaning} {rows : List RowData} {s : List ℕ} {ls : List Level} {v : View} {p : Place} {w : View} {n k : ℕ} → Opens m rows s ls v p w n k → Rising ls → PlaceRises p
+rise_opens : {m : Meaning} {rows : List RowData} {s : List ℕ} {ls : List Level} {v : View} {p : Place} {w : View} {n k : ℕ} → Opens any m rows s ls v p w n k → Rising ls → PlaceRises p
 rise_opens (Opens.finds p h) r = tt
 rise_opens {m} {rows} {s} {ls} {v} (Opens.branches l h) r =
     let y = seen m rows v (below ls) (propagated m rows s) (branch l) h in
@@ -148,15 +149,15 @@ rise_opens {m} {rows} {s} {ls} {v} (Opens.branches l h) r =
 rise_opens (Opens.dies p w n k h B) r = rise_back B r
 rise_opens (Opens.hits p w n k h B) r = rise_back B r
 
-rise_steps : {m : Meaning} {voices : List ℕ} {rows : List RowData} {p : Place} {v : View} {q : Place} {w : View} {n k : ℕ} → Steps m voices rows p v q w n k → PlaceRises p → PlaceRises q
+rise_steps : {m : Meaning} {voices : List ℕ} {rows : List RowData} {p : Place} {v : View} {q : Place} {w : View} {n k : ℕ} → Steps any m voices rows p v q w n k → PlaceRises p → PlaceRises q
 rise_steps (Steps.first v w p n k O) r = rise_opens O tt
 rise_steps (Steps.again l ls v w p n k O) r = rise_opens O r
 
-rise_goes : {m : Meaning} {n : ℕ} {t : Table} {v : View} {u : Table} {w : View} → Goes m n t v u w → PlaceRises t.place → PlaceRises u.place
+rise_goes : {m : Meaning} {n : ℕ} {t : Table} {v : View} {u : Table} {w : View} → Goes any m n t v u w → PlaceRises t.place → PlaceRises u.place
 rise_goes (Goes.stay t v) r = r
 rise_goes (Goes.more b t u v w x p n k S G) r = rise_goes G (rise_steps S r)
 
-rise_does : {m : Meaning} {t : Table} {v : View} {c : Call} {a : Answer} {u : Table} {w : View} → Does m t v c a u w → PlaceRises t.place → PlaceRises u.place
+rise_does : {m : Meaning} {t : Table} {v : View} {c : Call} {a : Answer} {u : Table} {w : View} → Does any m t v c a u w → PlaceRises t.place → PlaceRises u.place
 rise_does (Does.declines c n j) r = r
 rise_does (Does.declares s w j e) r = tt
 rise_does (Does.posts bs w j e) r = tt
@@ -164,10 +165,10 @@ rise_does (Does.wipes w e) r = tt
 rise_does (Does.solves b u w j S) r = rise_goes S.goes r
 rise_does (Does.reads buffer p j e) r = r
 
-rise_history : {m : Meaning} {h : List (Call × Answer)} {t : Table} {v : View} → History m h t v → PlaceRises t.place
+rise_history : {m : Meaning} {g : View} {h : List (Call × Answer)} {t : Table} {v : View} → History any m g h t v → PlaceRises t.place
 rise_history (History.made v e) = tt
 rise_history (History.then h t u v w c a H o d) = rise_does d (rise_history H)
 
-pub levels_rise : (m : Meaning) (h : List (Call × Answer)) (t : Table) (v : View) → History m h t v
-    → (n : ℕ) (u : Table) (w : View) → Goes m n t v u w → (l : Level) (ls : List Level) → u.place ≡ going l ls → Rising (l ∷ ls)
+pub levels_rise : (m : Meaning) (h : List (Call × Answer)) (t : Table) (v : View) → {g : View} → History any m g h t v
+    → (n : ℕ) (u : Table) (w : View) → Goes any m n t v u w → (l : Level) (ls : List Level) → u.place ≡ going l ls → Rising (l ∷ ls)
 levels_rise m h t v H n u w G l ls e = subst PlaceRises e (rise_goes G (rise_history H))

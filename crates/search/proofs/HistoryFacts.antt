@@ -8,7 +8,8 @@ use Rattle.rows.specs.Rows.{RowData, Meaning, Verdict}
 use Rattle.rows.specs.Laws.{Laws, Accepted}
 use Rattle.rows.specs.Bytes.{Bytes, Layout, head_length, lettered, counted, right_length, marked, decode}
 use Rattle.rows.proofs.Layouts.{bytes_both_ways}
-use Rattle.stores.specs.Stores.{member, View}
+use Rattle.stores.specs.Stores.{member, View, distinct_keys}
+use Rattle.search.proofs.AnyStore.{any}
 use Rattle.search.specs.Search.{Place}
 use Rattle.search.specs.Calls.{Table, Call, Answer, Formed, Judgement, reasons, judge, judged, declined_under, Goes, Does, empty}
 use Rattle.search.specs.Histories.{History}
@@ -29,6 +30,7 @@ empty_store : (m : Meaning) (rows : List RowData) (n : ℕ) (v : View) → v.hel
 empty_store m rows n v e = record {
   sound = λ x z. absurd (both_ways false refl (subst (λ (h : List (List ℕ)). member x h ≡ true) e z));
   count = λ _. ap length e;
+  distinct = ap distinct_keys e;
 }
 
 pub proper_push : (voices : List ℕ) (s : ℕ) → 0 < s → s < 2 ^ 64 → Proper voices → Proper (voices ++ (s ∷ []))
@@ -89,7 +91,7 @@ posted_row m t bs j b =
     record { shape = ((bytes_both_ways m).1 bs b (layout m t bs j)).0.shape; yes = verdict (m.accepts (decode m bs) (length t.voices)) f.0 f.1.0 }
 
 module _ (m : Meaning) (L : Laws m) where
-  pub goes : {b : ℕ} {t : Table} {v : View} {u : Table} {w : View} → Goes m b t v u w → Fit m t v → Fit m u w
+  pub goes : {b : ℕ} {t : Table} {v : View} {u : Table} {w : View} → Goes any m b t v u w → Fit m t v → Fit m u w
   goes (Goes.stay t v) f = f
   goes (Goes.more b t u v w x p n k S G) f =
       let next = steps m L t.rows t.voices f.okay f.proper S t.opened t.exhausted t.lost (f.stage, f.store) in
@@ -98,26 +100,26 @@ module _ (m : Meaning) (L : Laws m) where
   made : (v : View) → v.held ≡ [] → Fit m empty v
   made v e = record { proper = λ i l. absurd (omega arith); okay = tt; stage = refl; store = empty_store m [] 0 v e }
 
-  does : {t : Table} {v : View} {c : Call} {a : Answer} {u : Table} {w : View} → Does m t v c a u w → Formed c → Fit m t v → Fit m u w
+  does : {t : Table} {v : View} {c : Call} {a : Answer} {u : Table} {w : View} → Does any m t v c a u w → Formed c → Fit m t v → Fit m u w
   does (Does.declines c n j) o f = f
   does {t} (Does.declares s w j e) o f = record {
     proper = proper_push t.voices s (declared_set m t s j) o f.proper;
     okay = subst (AllAccepted m t.rows) (sym (length_push t.voices s)) (okay_more m L t.rows (length t.voices) f.okay);
     stage = refl;
-    store = empty_store m t.rows (length (t.voices ++ (s ∷ []))) w e.empty.none;
+    store = empty_store m t.rows (length (t.voices ++ (s ∷ []))) w e;
   }
   does {t} (Does.posts bs w j e) o f = record {
     proper = f.proper;
     okay = okay_push m t.rows (decode m bs) (length t.voices) (posted_row m t bs j o) f.okay;
     stage = refl;
-    store = empty_store m (t.rows ++ (decode m bs ∷ [])) (length t.voices) w e.empty.none;
+    store = empty_store m (t.rows ++ (decode m bs ∷ [])) (length t.voices) w e;
   }
-  does (Does.wipes w e) o f = made w e.empty.none
+  does (Does.wipes w e) o f = made w e
   does (Does.solves b u w j S) o f = goes S.goes f
   does (Does.reads buffer p j e) o f = f
 
-  pub fit : {h : List (Call × Answer)} {t : Table} {v : View} → History m h t v → Fit m t v
-  fit (History.made v e) = made v e.none
+  pub fit : {g : View} {h : List (Call × Answer)} {t : Table} {v : View} → History any m g h t v → Fit m t v
+  fit (History.made v e) = made v e
   fit (History.then h t u v w c a H o d) = does d o (fit H)
 
   bounded : (rows : List RowData) (voices : List ℕ) (v : View) (o e : ℕ) (p : Place) → Stage m rows voices p v o e → o ≤ 1 + 64 * (e + length voices)
@@ -128,7 +130,7 @@ module _ (m : Meaning) (L : Laws m) where
   bounded rows voices v o e (found p) s = s.2
   bounded rows voices v o e none s = s.1
 
-  pub search_stands : (h : List (Call × Answer)) (t : Table) (v : View) → History m h t v → Stands m t v
+  pub search_stands : (h : List (Call × Answer)) (t : Table) (v : View) → {g : View} → History any m g h t v → Stands m t v
   search_stands h t v H =
       let f = fit H in
       let at : (p : Place) → t.place ≡ p → Stage m t.rows t.voices p v t.opened t.exhausted =
@@ -137,5 +139,6 @@ module _ (m : Meaning) (L : Laws m) where
         found_least = λ p e. record { lawful = (at (found p) e).0; least = (at (found p) e).1 };
         none_lawful = λ e. (at none e).0;
         all_kept = f.store.count;
+        distinct = f.store.distinct;
         bounded = bounded t.rows t.voices v t.opened t.exhausted t.place f.stage;
       }

@@ -5,6 +5,7 @@ pub mod PropagationFacts
 pub mod Quiet
 pub mod KeyFacts
 pub mod LevelFacts
+pub mod AnyStore
 pub mod NodeFacts
 pub mod HistoryFacts
 pub mod BranchingFacts
@@ -12,6 +13,6 @@ pub mod AnswerFacts
 pub mod RefusalFacts
 pub mod OutcomeFacts
 pub mod StoreFacts
-pub mod LaterFacts
 pub mod LimitFacts
 pub mod NeverTwice
+pub mod OverEvery

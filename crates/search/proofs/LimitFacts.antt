@@ -7,6 +7,7 @@ use Rattle.rows.specs.Rows.{RowData, Meaning}
 use Rattle.rows.specs.Bytes.{head_length, lettered, counted, right_length, marked, decode, encode, total_bytes, LaidOut, Layout}
 use Rattle.rows.proofs.Layouts.{bytes_both_ways}
 use Rattle.stores.specs.Stores.{View}
+use Rattle.search.proofs.AnyStore.{any}
 use Rattle.search.specs.Limits.{most_voices, most_rows, most_bytes, most_opened}
 use Rattle.search.specs.Calls.{Table, Call, Answer, Formed, Judgement, reasons, judged, empty, over, says, Does}
 use Rattle.search.specs.Calls.Call.{declare, post, solve}
@@ -27,19 +28,19 @@ module _ (m : Meaning) where
   none_yet : Limited m empty
   none_yet = record { voices = omega arith; sets = λ i l. absurd (omega arith); rows = omega arith; bytes = omega arith; laid_out = tt; opened = omega arith }
 
-  solve_limit : (t : Table) (v : View) (b : ℕ) (u : Table) (w : View) → judged m t (solve b) ≡ Judgement.passes → Does m t v (solve b) (says u.place) u w → t.opened ≤ most_opened → u.opened ≤ most_opened
+  solve_limit : (t : Table) (v : View) (b : ℕ) (u : Table) (w : View) → judged m t (solve b) ≡ Judgement.passes → Does any m t v (solve b) (says u.place) u w → t.opened ≤ most_opened → u.opened ≤ most_opened
   solve_limit t v b u w j d l =
       let k = solve_keeps_budget m t v b (says u.place) u w j d in
       let f = (none_fits (reasons m t (solve b)) j).1.0 in
       elim (cases_Bool (over t.place)) [
-        | inl o ↦ omega (arith, l, ap (λ (x : Table). x.opened) (k.repeats o).0)
+        | inl o ↦ omega (arith, l, ap (λ (x : Table). x.opened) (k.repeats o))
         | inr o ↦ elim (and_cases (not (over t.place)) (ltb most_opened (t.opened + b)) f) [
           | inl e ↦ absurd (both_ways (over t.place) o (not-false (over t.place) e))
           | inr e ↦ omega (arith, ltb-false most_opened (t.opened + b) e, k.at_most)
         ]
       ]
 
-  limits_after : {t : Table} {v : View} {c : Call} {a : Answer} {u : Table} {w : View} → Does m t v c a u w → Formed c → Limited m t → Limited m u
+  limits_after : {t : Table} {v : View} {c : Call} {a : Answer} {u : Table} {w : View} → Does any m t v c a u w → Formed c → Limited m t → Limited m u
   limits_after (Does.declines c n j) o f = f
   limits_after {t} (Does.declares s w j e) o f = record {
     voices = omega (arith, length_push t.voices s, leb-false most_voices (length t.voices) (none_fits (reasons m t (declare s)) j).1.0);
@@ -73,9 +74,9 @@ module _ (m : Meaning) where
       }
   limits_after (Does.reads buffer p j e) o f = f
 
-  limits : {h : List (Call × Answer)} {t : Table} {v : View} → History m h t v → Limited m t
+  limits : {g : View} {h : List (Call × Answer)} {t : Table} {v : View} → History any m g h t v → Limited m t
   limits (History.made v e) = none_yet
   limits (History.then h t u v w c a H o d) = limits_after d o (limits H)
 
-pub limits_stand : (m : Meaning) (h : List (Call × Answer)) (t : Table) (v : View) → History m h t v → Limited m t
+pub limits_stand : (m : Meaning) (h : List (Call × Answer)) (t : Table) (v : View) → {g : View} → History any m g h t v → Limited m t
 limits_stand m h t v H = limits m H

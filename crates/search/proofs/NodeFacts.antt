@@ -8,7 +8,8 @@ use Rattle.sets.specs.Placings.{some_empty, all_fixed, Proper, Lesser, values, s
 use Rattle.rows.specs.Rows.{RowData, Meaning}
 use Rattle.rows.specs.Laws.{Laws}
 use Rattle.stores.specs.Keys.{key}
-use Rattle.stores.specs.Stores.{member, View, Keeps}
+use Rattle.stores.specs.Stores.{member, View, Keeps, distinct_keys}
+use Rattle.search.proofs.AnyStore.{any}
 use Rattle.search.specs.Placed.{Lawful, AllAccepted}
 use Rattle.search.specs.Search.{Level, Place, Node, below, level_of, node, child, taken, BacksUp, Opens, Steps}
 use Rattle.search.specs.Propagation.{propagated}
@@ -44,17 +45,18 @@ Stage m rows voices none v o e = ((q : List ℕ) → Lawful m voices rows q → 
 pub record SoundStore (m : Meaning) (rows : List RowData) (n : ℕ) (v : View) (e j : ℕ) : Type 0 where
   pub sound : (x : List ℕ) → member x v.held ≡ true → Sound m rows n x
   pub count : j ≡ 0 → length v.held ≡ e
+  pub distinct : distinct_keys v.held ≡ true
 
 -- w holds nothing but what v holds and k
 abbrev pub From : View → List ℕ → View → Type 0
 From v k w = (x : List ℕ) → member x w.held ≡ true → (same x k || member x v.held) ≡ true
 
-pub kept_from : (v : View) (k : List ℕ) (w : View) → Keeps v k Kept w → member k v.held ≡ false → From v k w × (length w.held ≡ length v.held + 1)
+pub kept_from : (v : View) (k : List ℕ) (w : View) → Keeps v k Kept w → member k v.held ≡ false → From v k w × (length w.held ≡ length v.held + 1) × (distinct_keys v.held ≡ true → distinct_keys w.held ≡ true)
 kept_from v k w (Keeps.again h) f = absurd (both_ways (member k v.held) f h)
-kept_from v k w (Keeps.joins w' h s j) f = (λ x z. sym (j.members x) ∙ z, j.count)
+kept_from v k w (Keeps.joins w' h s j) f = (λ x z. sym (j.members x) ∙ z, j.count, j.distinct)
 
-pub lost_from : (v : View) (k : List ℕ) (w : View) → Keeps v k Lost w → From v k w
-lost_from v k w (Keeps.loses w' h s j z y e) = j
+pub lost_from : (v : View) (k : List ℕ) (w : View) → Keeps v k Lost w → From v k w × (distinct_keys v.held ≡ true → distinct_keys w.held ≡ true)
+lost_from v k w (Keeps.loses w' h s j d z) = (j, d)
 
 -- what a node tells of its sets, looked at from the voice c on
 abbrev pub Seen : Meaning → List RowData → View → ℕ → List ℕ → Node → Type 0
@@ -82,13 +84,14 @@ module _ (m : Meaning) (L : Laws m) (rows : List RowData) (voices : List ℕ) (o
   both_at p v o e f j i a b h = subst (λ (x : ℕ). Both p v o x i) a (subst (λ (x : ℕ). Both p v o e x) b h)
 
   stored_after : (s : List ℕ) (v w : View) (e j f i : ℕ) → Proper s → length s ≡ length voices → Fails m rows s → From v (key m rows s) w
-      → SoundStore m rows (length voices) v e j → (i ≡ 0 → length w.held ≡ f) → SoundStore m rows (length voices) w f i
-  stored_after s v w e j f i p l fails h st c = record {
+      → SoundStore m rows (length voices) v e j → (i ≡ 0 → length w.held ≡ f) → (distinct_keys v.held ≡ true → distinct_keys w.held ≡ true) → SoundStore m rows (length voices) w f i
+  stored_after s v w e j f i p l fails h st c d = record {
     sound = λ x z. elim (or_cases (same x (key m rows s)) (member x v.held) (h x z)) [
       | inl y ↦ subst (Sound m rows (length voices)) (sym (same_is x (key m rows s) y)) (key_sound m L rows (length voices) s okay p l fails)
       | inr y ↦ st.sound x y
     ];
     count = c;
+    distinct = d st.distinct;
   }
 
   exhausted : (l : Level) (ls : List Level) (box : List ℕ) → Chain m rows voices (l ∷ ls) box → Fails m rows box → eqb l.left 0 ≡ true → Fails m rows l.sets
@@ -96,12 +99,12 @@ module _ (m : Meaning) (L : Laws m) (rows : List RowData) (voices : List ℕ) (o
       let g = back_newest m rows voices l ls box c f in
       empty_has (get_or p l.voice 0) (subst (λ (y : ℕ). has y (get_or p l.voice 0) ≡ true) (eqb-true l.left 0 z) (g.newest p w h))
 
-  backs_up : {ls : List Level} {v : View} {p : Place} {w : View} {n k : ℕ} → BacksUp m rows ls v p w n k → (box : List ℕ) (o e j : ℕ)
+  backs_up : {ls : List Level} {v : View} {p : Place} {w : View} {n k : ℕ} → BacksUp any m rows ls v p w n k → (box : List ℕ) (o e j : ℕ)
       → Chain m rows voices ls box → Fails m rows box → Unheld m rows v ls → SoundStore m rows (length voices) v e j → Spent ls o e → Both p w o (e + n) (j + k)
   backs_up (BacksUp.root v) box o e j c f u st sp =
-      ((λ q lw. f q (c.keeps q lw.within lw.holding) lw.holding, omega arith), record { sound = st.sound; count = λ z. omega (arith, st.count (omega arith)) })
+      ((λ q lw. f q (c.keeps q lw.within lw.holding) lw.holding, omega arith), record { sound = st.sound; count = λ z. omega (arith, st.count (omega arith)); distinct = st.distinct })
   backs_up (BacksUp.next l ls v z) box o e j c f u st sp =
-      ((back_newest m rows voices l ls box c f, omega (arith, eqb-false l.left 0 z), u, omega arith), record { sound = st.sound; count = λ z. omega (arith, st.count (omega arith)) })
+      ((back_newest m rows voices l ls box c f, omega (arith, eqb-false l.left 0 z), u, omega arith), record { sound = st.sound; count = λ z. omega (arith, st.count (omega arith)); distinct = st.distinct })
   backs_up (BacksUp.keeps l ls v w x p n k z K B) box o e j c f u st sp =
       let fl = exhausted l ls box c f z in
       let a = kept_from v (key m rows l.sets) w K u.0 in
@@ -109,7 +112,7 @@ module _ (m : Meaning) (L : Laws m) (rows : List RowData) (voices : List ℕ) (o
       both_at p x o (e + 1 + n) (e + suc n) (j + k) (j + k) (omega arith) refl
       (backs_up B l.sets o (e + 1) j c.3 fl
       (unheld_after m rows voices ls l.sets l.sets v w c.3 (narrow_refl l.sets) su.proper a.0 u.1)
-      (stored_after l.sets v w e j (e + 1) j su.proper su.long fl a.0 st (λ y. omega (arith, a.1, st.count y)))
+      (stored_after l.sets v w e j (e + 1) j su.proper su.long fl a.0 st (λ y. omega (arith, a.1, st.count y)) a.2)
       (omega arith))
   backs_up (BacksUp.loses l ls v w x p n k z K B) box o e j c f u st sp =
       let fl = exhausted l ls box c f z in
@@ -117,8 +120,8 @@ module _ (m : Meaning) (L : Laws m) (rows : List RowData) (voices : List ℕ) (o
       let su = c.0 in
       both_at p x o (e + 1 + n) (e + suc n) (j + 1 + k) (j + suc k) (omega arith) (omega arith)
       (backs_up B l.sets o (e + 1) (j + 1) c.3 fl
-      (unheld_after m rows voices ls l.sets l.sets v w c.3 (narrow_refl l.sets) su.proper a u.1)
-      (stored_after l.sets v w e j (e + 1) (j + 1) su.proper su.long fl a st (λ y. absurd (omega arith)))
+      (unheld_after m rows voices ls l.sets l.sets v w c.3 (narrow_refl l.sets) su.proper a.0 u.1)
+      (stored_after l.sets v w e j (e + 1) (j + 1) su.proper su.long fl a.0 st (λ y. absurd (omega arith)) a.1)
       (omega arith))
 
   shallow : (ls : List Level) (box : List ℕ) → Chain m rows voices ls box → length ls ≤ length voices
@@ -134,7 +137,7 @@ module _ (m : Meaning) (L : Laws m) (rows : List RowData) (voices : List ℕ) (o
     pub spent : Spent ls o e
 
   same_store : (v : View) (e j : ℕ) → SoundStore m rows (length voices) v e j → SoundStore m rows (length voices) v (e + 0) (j + 0)
-  same_store v e j st = record { sound = st.sound; count = λ z. omega (arith, st.count (omega arith)) }
+  same_store v e j st = record { sound = st.sound; count = λ z. omega (arith, st.count (omega arith)); distinct = st.distinct }
 
   finds : (b : List ℕ) (ls : List Level) (v : View) (o e j : ℕ) (p : List ℕ) → Below b ls v o e j → Seen m rows v (below ls) b (solution p) → Both (found p) v o (e + 0) (j + 0)
   finds b ls v o e j p h y =
@@ -161,7 +164,7 @@ module _ (m : Meaning) (L : Laws m) (rows : List RowData) (voices : List ℕ) (o
       ((g, at.0, (y.1, h.unheld), omega (arith, h.spent, ones_all (level_of (below ls) b).left at.1)), same_store v e j h.store)
 
   fails : (b : List ℕ) (ls : List Level) (v : View) (o e j : ℕ) {p : Place} {w : View} {n k : ℕ} → Below b ls v o e j → Fails m rows b
-      → BacksUp m rows ls v p w n k → Both p w o (e + n) (j + k)
+      → BacksUp any m rows ls v p w n k → Both p w o (e + n) (j + k)
   fails b ls v o e j h f B = backs_up B b o e j h.chain f h.unheld h.store h.spent
 
   hits : (b : List ℕ) (ls : List Level) (v : View) (o e j : ℕ) → Below b ls v o e j → Seen m rows v (below ls) b hit → Fails m rows b
@@ -180,7 +183,7 @@ module _ (m : Meaning) (L : Laws m) (rows : List RowData) (voices : List ℕ) (o
         spent = sp;
       }
 
-  opens : (s : List ℕ) (ls : List Level) (v : View) {p : Place} {w : View} {n k : ℕ} → Opens m rows s ls v p w n k → (o e j : ℕ)
+  opens : (s : List ℕ) (ls : List Level) (v : View) {p : Place} {w : View} {n k : ℕ} → Opens any m rows s ls v p w n k → (o e j : ℕ)
       → Below (propagated m rows s) ls v o e j → Both p w o (e + n) (j + k)
   opens s ls v (Opens.finds p h) o e j a = finds (propagated m rows s) ls v o e j p a (seen m rows v (below ls) (propagated m rows s) (solution p) h)
   opens s ls v (Opens.branches l h) o e j a = branches (propagated m rows s) ls v o e j l a (seen m rows v (below ls) (propagated m rows s) (branch l) h)
@@ -189,7 +192,7 @@ module _ (m : Meaning) (L : Laws m) (rows : List RowData) (voices : List ℕ) (o
   opens s ls v (Opens.hits p w n k h B) o e j a =
       fails (propagated m rows s) ls v o e j a (hits (propagated m rows s) ls v o e j a (seen m rows v (below ls) (propagated m rows s) hit h)) B
 
-  pub steps : (proper : Proper voices) {p : Place} {v : View} {q : Place} {w : View} {n k : ℕ} → Steps m voices rows p v q w n k → (o e j : ℕ)
+  pub steps : (proper : Proper voices) {p : Place} {v : View} {q : Place} {w : View} {n k : ℕ} → Steps any m voices rows p v q w n k → (o e j : ℕ)
       → Both p v o e j → Both q w (o + 1) (e + n) (j + k)
   steps proper (Steps.first v w p n k O) o e j (g, st) =
       opens voices [] v O (o + 1) e j (falls voices [] v (o + 1) e j proper (record { narrow = narrow_refl voices; keeps = λ q y h. y }) tt st (omega arith))

@@ -6,6 +6,7 @@ use Rattle.rows.specs.Rows.{RowData, Meaning}
 use Rattle.stores.specs.Keys.{key}
 use Rattle.stores.specs.Stores.{member, View, Keeps}
 use Rattle.stores.specs.declared.store.Stored.TheVariants.{Kept}
+use Rattle.search.proofs.AnyStore.{any}
 use Rattle.search.specs.Search.{Level, Place, Node, node, level_of, below, child, taken, BacksUp, Opens, Steps}
 use Rattle.search.specs.Propagation.{propagated}
 use Rattle.search.specs.Calls.{Table, Call, Answer, Judgement, over, says, result, Goes, Does}
@@ -34,7 +35,7 @@ module _ (m : Meaning) where
       ((eqb l.left 0 ≡ false) × (p ≡ going l ls) × (w ≡ v) × (n ≡ 0))
       ⊎ ((eqb l.left 0 ≡ true) × (x : View) × (i : ℕ) × Keeps v (key m rows l.sets) Kept x × (n ≡ suc i) × Backed rows ls x p w i)
 
-  backed : {rows : List RowData} {ls : List Level} {v : View} {p : Place} {w : View} {n k : ℕ} → BacksUp m rows ls v p w n k → k ≡ 0 → Backed rows ls v p w n
+  backed : {rows : List RowData} {ls : List Level} {v : View} {p : Place} {w : View} {n k : ℕ} → BacksUp any m rows ls v p w n k → k ≡ 0 → Backed rows ls v p w n
   backed (BacksUp.root v) e = (refl, refl, refl)
   backed (BacksUp.next l ls v z) e = inl (z, refl, refl, refl)
   backed (BacksUp.keeps l ls v w u p n k z K B) e = inr (z, w, n, K, refl, backed B e)
@@ -60,7 +61,7 @@ module _ (m : Meaning) where
   Opened rows ls v (solution q) p w n = (p ≡ found q) × (w ≡ v) × (n ≡ 0)
   Opened rows ls v (branch l) p w n = (p ≡ going l ls) × (w ≡ v) × (n ≡ 0)
 
-  opened : {rows : List RowData} {b : List ℕ} {ls : List Level} {v : View} {p : Place} {w : View} {n k : ℕ} → Opens m rows b ls v p w n k → k ≡ 0
+  opened : {rows : List RowData} {b : List ℕ} {ls : List Level} {v : View} {p : Place} {w : View} {n k : ℕ} → Opens any m rows b ls v p w n k → k ≡ 0
       → Opened rows ls v (node m rows v (below ls) (propagated m rows b)) p w n
   opened {rows} {b} {ls} {v} (Opens.finds p h) e = subst (λ (x : Node). Opened rows ls v x (found p) v 0) (sym h) (refl, refl, refl)
   opened {rows} {b} {ls} {v} (Opens.branches l h) e = subst (λ (x : Node). Opened rows ls v x (going l ls) v 0) (sym h) (refl, refl, refl)
@@ -84,23 +85,23 @@ module _ (m : Meaning) where
       ]) (s (key m rows b))
 
   opens_agree : (rows : List RowData) (b : List ℕ) (ls : List Level) (v v' : View) {p p' : Place} {w w' : View} {n n' k k' : ℕ} → SameKeys v v'
-      → Opens m rows b ls v p w n k → Opens m rows b ls v' p' w' n' k' → k ≡ 0 → k' ≡ 0 → Both p w n p' w' n'
+      → Opens any m rows b ls v p w n k → Opens any m rows b ls v' p' w' n' k' → k ≡ 0 → k' ≡ 0 → Both p w n p' w' n'
   opens_agree rows b ls v v' {p} {p'} {w} {w'} {n} {n'} s O O' e e' =
       opened_agree rows ls (node m rows v (below ls) (propagated m rows b)) v v' p p' w w' n n' s (opened O e)
       (subst (λ (x : Node). Opened rows ls v' x p' w' n') (sym (node_agree rows (below ls) (propagated m rows b) v v' s)) (opened O' e'))
 
   steps_agree : {voices : List ℕ} {rows : List RowData} {x : Place} {v v' : View} {p p' : Place} {w w' : View} {n n' k k' : ℕ} → SameKeys v v'
-      → Steps m voices rows x v p w n k → Steps m voices rows x v' p' w' n' k' → k ≡ 0 → k' ≡ 0 → Both p w n p' w' n'
+      → Steps any m voices rows x v p w n k → Steps any m voices rows x v' p' w' n' k' → k ≡ 0 → k' ≡ 0 → Both p w n p' w' n'
   steps_agree {voices} {rows} s (Steps.first v w p n k O) (Steps.first v' w' p' n' k' O') e e' = opens_agree rows voices [] v v' s O O' e e'
   steps_agree {voices} {rows} s (Steps.again l ls v w p n k O) (Steps.again l' ls' v' w' p' n' k' O') e e' =
       opens_agree rows (child l) (taken l ∷ ls) v v' s O O' e e'
 
   -- losses only add up
-  goes_lost : {b : ℕ} {t : Table} {v : View} {u : Table} {w : View} → Goes m b t v u w → t.lost ≤ u.lost
+  goes_lost : {b : ℕ} {t : Table} {v : View} {u : Table} {w : View} → Goes any m b t v u w → t.lost ≤ u.lost
   goes_lost (Goes.stay t v) = omega arith
   goes_lost (Goes.more b t u v w x p n k S G) = omega (arith, goes_lost G)
 
-  goes_agree : {i i' : ℕ} {t t' : Table} {v v' : View} {u u' : Table} {w w' : View} → Goes m i t v u w → Goes m i' t' v' u' w' → (b : ℕ) → t ≡ t' → SameKeys v v'
+  goes_agree : {i i' : ℕ} {t t' : Table} {v v' : View} {u u' : Table} {w w' : View} → Goes any m i t v u w → Goes any m i' t' v' u' w' → (b : ℕ) → t ≡ t' → SameKeys v v'
       → i ≤ b → i' ≤ b → (over u.place ≡ true) ⊎ (i ≡ b) → (over u'.place ≡ true) ⊎ (i' ≡ b) → u.lost ≤ t.lost → u'.lost ≤ t'.lost → (u ≡ u') × SameKeys w w'
   goes_agree (Goes.stay t v) (Goes.stay t' v') b q s l l' e e' z z' = (q, s)
   goes_agree (Goes.stay t v) (Goes.more i' t' u' v' w' x' p' n' k' S' G') b q s l l' e e' z z' =
@@ -113,7 +114,7 @@ module _ (m : Meaning) where
       let a' = goes_lost G' in
       let k0 : k ≡ 0 = omega arith in
       let k0' : k' ≡ 0 = omega arith in
-      let r = steps_agree s S (subst (λ (y : Table). Steps m y.voices y.rows y.place v' p' w' n' k') (sym q) S') k0 k0' in
+      let r = steps_agree s S (subst (λ (y : Table). Steps any m y.voices y.rows y.place v' p' w' n' k') (sym q) S') k0 k0' in
       goes_agree G G' b
       (λ j. record {
         voices = (q j).voices;
@@ -134,7 +135,7 @@ module _ (m : Meaning) where
   none_held w w' e e' x = ap (member x) (e ∙ sym e')
 
   does_agree : (t : Table) (v v' : View) {c : Call} {a a' : Answer} {u u' : Table} {w w' : View} → SameKeys v v'
-      → Does m t v c a u w → Does m t v' c a' u' w' → u.lost ≤ t.lost → u'.lost ≤ t.lost → (a ≡ a') × (u ≡ u') × SameKeys w w'
+      → Does any m t v c a u w → Does any m t v' c a' u' w' → u.lost ≤ t.lost → u'.lost ≤ t.lost → (a ≡ a') × (u ≡ u') × SameKeys w w'
   does_agree t v v' s (Does.declines c n j) (Does.declines c' n' j') z z' = (ap (λ (x : Judgement). Answer.refused (number x)) (sym j ∙ j'), refl, s)
   does_agree t v v' s (Does.declines c n j) (Does.declares x' w' j' e') z z' = absurd (not_both j j')
   does_agree t v v' s (Does.declines c n j) (Does.posts x' w' j' e') z z' = absurd (not_both j j')
@@ -142,11 +143,11 @@ module _ (m : Meaning) where
   does_agree t v v' s (Does.declines c n j) (Does.solves b' u' w' j' S') z z' = absurd (not_both j j')
   does_agree t v v' s (Does.declines c n j) (Does.reads b' p' j' e') z z' = absurd (not_both j j')
   does_agree t v v' s (Does.declares x w j e) (Does.declines c n j') z z' = absurd (not_both j' j)
-  does_agree t v v' s (Does.declares x w j e) (Does.declares x' w' j' e') z z' = (refl, refl, none_held w w' e.empty.none e'.empty.none)
+  does_agree t v v' s (Does.declares x w j e) (Does.declares x' w' j' e') z z' = (refl, refl, none_held w w' e e')
   does_agree t v v' s (Does.posts x w j e) (Does.declines c n j') z z' = absurd (not_both j' j)
-  does_agree t v v' s (Does.posts x w j e) (Does.posts x' w' j' e') z z' = (refl, refl, none_held w w' e.empty.none e'.empty.none)
+  does_agree t v v' s (Does.posts x w j e) (Does.posts x' w' j' e') z z' = (refl, refl, none_held w w' e e')
   does_agree t v v' s (Does.wipes w e) (Does.declines c n j') z z' = absurd (not_both j' refl)
-  does_agree t v v' s (Does.wipes w e) (Does.wipes w' e') z z' = (refl, refl, none_held w w' e.empty.none e'.empty.none)
+  does_agree t v v' s (Does.wipes w e) (Does.wipes w' e') z z' = (refl, refl, none_held w w' e e')
   does_agree t v v' s (Does.solves b u w j S) (Does.declines c n j') z z' = absurd (not_both j' j)
   does_agree t v v' s (Does.solves b u w j S) (Does.solves b' u' w' j' S') z z' =
       let r = goes_agree S.goes S'.goes b refl s S.inside S'.inside S.ends S'.ends z z' in
@@ -156,5 +157,5 @@ module _ (m : Meaning) where
       (ap (λ (x : Place). Answer.wrote (length (result x)) (result x ++ drop (length (result x)) b)) (sym e ∙ e'), refl, s)
 
 pub stores_agree : (m : Meaning) (t : Table) (v v' : View) (c : Call) (a a' : Answer) (u u' : Table) (w w' : View) → SameKeys v v'
-    → Does m t v c a u w → Does m t v' c a' u' w' → u.lost ≤ t.lost → u'.lost ≤ t.lost → (a ≡ a') × (u ≡ u') × SameKeys w w'
+    → Does any m t v c a u w → Does any m t v' c a' u' w' → u.lost ≤ t.lost → u'.lost ≤ t.lost → (a ≡ a') × (u ≡ u') × SameKeys w w'
 stores_agree m t v v' c a a' u u' w w' s d d' z z' = does_agree m t v v' s d d' z z'

@@ -9,7 +9,7 @@ use Rattle.stores.specs.Behaviours.{Behaviour, Decided}
 use Rattle.search.specs.Propagation.{propagated}
 use Rattle.search.specs.Search.{Place, Level, Steps}
 use Rattle.search.specs.Placed.{AllAccepted, Lawful, SameLeast}
-use Rattle.search.specs.Calls.{Table, Call, Answer, Judgement, reasons, judged, Goes, Does}
+use Rattle.search.specs.Calls.{Table, Call, Answer, Judgement, reasons, judged, over, Goes, Does}
 use Rattle.search.specs.Calls.Call.{solve, read}
 use Rattle.search.specs.Histories.{History, calls_of, declared, posted}
 use Rattle.search.specs.Results.{Propagates, Projects, Stands, Limited, Says, finished, Reads, Budgeted, fits}

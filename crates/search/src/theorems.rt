@@ -1,9 +1,17 @@
-// What is proved of the search and of the calls, over every bank and every store.
+// What is proved of the search and of the calls, over every bank and every behaviour of a store.
 ghost use Rattle.search.specs.Theorems.{PropagationSound, FixedSolves, KeysProject};
 ghost use Rattle.search.specs.Theorems.{SearchStands, BranchesLowest, LevelsRise, NeverTwice};
 ghost use Rattle.search.specs.Theorems.{AnswersStand, ReadsStand, TablesGiven, ResultsAgree};
 ghost use Rattle.search.specs.Theorems.{SolveKeepsBudget, RefusalsSmallest, LimitsStand};
-ghost use Rattle.search.specs.Theorems.{OneOutcome, StoresAgree};
+ghost use Rattle.search.specs.Theorems.{OneOutcome, OneHistory, StoresAgree};
+ghost use Rattle.stores.specs.Behaviours.{Behaviour, Decided};
+ghost use Rattle.stores.specs.Bare.{bare};
+ghost use Rattle.stores.specs.ShelfLaws.{shelf};
+
+// A behaviour of a store, and nothing else: a law that is proved of every type with one is proved of every behaviour.
+pub trait Behaves {
+    ghost behaviour: { Behaviour };
+}
 
 // Propagation takes out only values that no placing uses for which all rows hold, and ends where no turn changes anything.
 pub fn propagation_sound()
@@ -21,48 +29,48 @@ pub fn keys_project()
 {}
 
 // After every history: what was found is the least lawful placing, and none says that there is none.
-pub fn search_stands()
-    ensures { SearchStands }
+pub fn search_stands<S: Behaves>()
+    ensures { SearchStands S.Behaves.behaviour }
 {}
 
 // Every node branches on its lowest voice that is not fixed.
-pub fn branches_lowest()
-    ensures { BranchesLowest }
+pub fn branches_lowest<S: Behaves>()
+    ensures { BranchesLowest S.Behaves.behaviour }
 {}
 
 // The voices of the levels ascend strictly.
-pub fn levels_rise()
-    ensures { LevelsRise }
+pub fn levels_rise<S: Behaves>()
+    ensures { LevelsRise S.Behaves.behaviour }
 {}
 
 // A key that goes to the store when a node is exhausted is not held already.
-pub fn never_twice()
-    ensures { NeverTwice }
+pub fn never_twice<S: Behaves>()
+    ensures { NeverTwice S.Behaves.behaviour }
 {}
 
 // Each answer of Solve in a history says what is so of the voices and rows given before it.
-pub fn answers_stand()
-    ensures { AnswersStand }
+pub fn answers_stand<S: Behaves>()
+    ensures { AnswersStand S.Behaves.behaviour }
 {}
 
 // What Read wrote is the least lawful placing, and the rest of the buffer is as it was.
-pub fn reads_stand()
-    ensures { ReadsStand }
+pub fn reads_stand<S: Behaves>()
+    ensures { ReadsStand S.Behaves.behaviour }
 {}
 
 // A table has the voices and rows that its calls have given.
-pub fn tables_given()
-    ensures { TablesGiven }
+pub fn tables_given<S: Behaves>()
+    ensures { TablesGiven S.Behaves.behaviour }
 {}
 
 // Two results are equal exactly when the least lawful placings are, or when neither table has any.
-pub fn results_agree()
-    ensures { ResultsAgree }
+pub fn results_agree<S: Behaves, T: Behaves>()
+    ensures { ResultsAgree S.Behaves.behaviour T.Behaves.behaviour }
 {}
 
 // Solve opens at most its budget, and says stopped exactly when that is used up and the search is not over.
-pub fn solve_keeps_budget()
-    ensures { SolveKeepsBudget }
+pub fn solve_keeps_budget<S: Behaves>()
+    ensures { SolveKeepsBudget S.Behaves.behaviour }
 {}
 
 // A call is declined under the smallest number that fits.
@@ -71,16 +79,27 @@ pub fn refusals_smallest()
 {}
 
 // No history passes the limits of a table.
-pub fn limits_stand()
-    ensures { LimitsStand }
+pub fn limits_stand<S: Behaves>()
+    ensures { LimitsStand S.Behaves.behaviour }
 {}
 
-// Over each store every call comes to something, and to one thing only.
-pub fn one_outcome()
-    ensures { OneOutcome }
+// Over a store of which nothing is open every call comes to something, and to one thing only.
+pub fn one_outcome<S: Behaves>()
+    ensures { Decided S.Behaves.behaviour → OneOutcome S.Behaves.behaviour }
+{}
+
+// And any two histories with the same calls come to the same: answers, table, and state of the store.
+pub fn one_history<S: Behaves>()
+    ensures { Decided S.Behaves.behaviour → OneHistory S.Behaves.behaviour }
+{}
+
+// The shelf and the bare store are such stores.
+pub fn shelf_and_bare_decide()
+    ensures shelf { OneOutcome shelf × OneHistory shelf }
+    ensures bare { OneOutcome bare × OneHistory bare }
 {}
 
 // Stores that hold the same keys and lose none give the same answers and counts.
-pub fn stores_agree()
-    ensures { StoresAgree }
+pub fn stores_agree<S: Behaves, T: Behaves>()
+    ensures { StoresAgree S.Behaves.behaviour T.Behaves.behaviour }
 {}

@@ -1,5 +1,5 @@
-use Rattle.search.proofs.AnswerFacts.{answers_stand}
+use Rattle.search.proofs.OverEvery.{answers_stand}
 use Rattle.search.proofs.theorems.answers_stand.Goals as goal
 
 pub returns : goal.returns
-returns c = answers_stand
+returns g c = answers_stand g.S.Behaves.behaviour

@@ -1,5 +1,5 @@
-use Rattle.search.proofs.BranchingFacts.{branches_lowest}
+use Rattle.search.proofs.OverEvery.{branches_lowest}
 use Rattle.search.proofs.theorems.branches_lowest.Goals as goal
 
 pub returns : goal.returns
-returns c = branches_lowest
+returns g c = branches_lowest g.S.Behaves.behaviour

@@ -1,5 +1,5 @@
-use Rattle.search.proofs.LimitFacts.{limits_stand}
+use Rattle.search.proofs.OverEvery.{limits_stand}
 use Rattle.search.proofs.theorems.limits_stand.Goals as goal
 
 pub returns : goal.returns
-returns c = limits_stand
+returns g c = limits_stand g.S.Behaves.behaviour

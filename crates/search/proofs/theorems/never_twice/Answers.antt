@@ -1,5 +1,5 @@
-use Rattle.search.proofs.NeverTwice.{never_twice}
+use Rattle.search.proofs.OverEvery.{never_twice}
 use Rattle.search.proofs.theorems.never_twice.Goals as goal
 
 pub returns : goal.returns
-returns c = never_twice
+returns g c = never_twice g.S.Behaves.behaviour

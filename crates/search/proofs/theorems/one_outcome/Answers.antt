@@ -2,4 +2,4 @@ use Rattle.search.proofs.OutcomeFacts.{one_outcome}
 use Rattle.search.proofs.theorems.one_outcome.Goals as goal
 
 pub returns : goal.returns
-returns c = one_outcome
+returns g c = one_outcome g.S.Behaves.behaviour

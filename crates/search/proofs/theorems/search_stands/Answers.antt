@@ -1,5 +1,5 @@
-use Rattle.search.proofs.HistoryFacts.{search_stands}
+use Rattle.search.proofs.OverEvery.{search_stands}
 use Rattle.search.proofs.theorems.search_stands.Goals as goal
 
 pub returns : goal.returns
-returns c = search_stands
+returns g c = search_stands g.S.Behaves.behaviour

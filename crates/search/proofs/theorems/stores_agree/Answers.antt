@@ -1,5 +1,5 @@
-use Rattle.search.proofs.StoreFacts.{stores_agree}
+use Rattle.search.proofs.OverEvery.{stores_agree}
 use Rattle.search.proofs.theorems.stores_agree.Goals as goal
 
 pub returns : goal.returns
-returns c = stores_agree
+returns g c = stores_agree g.S.Behaves.behaviour g.T.Behaves.behaviour

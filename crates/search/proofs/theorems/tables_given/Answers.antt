@@ -1,5 +1,5 @@
-use Rattle.search.proofs.AnswerFacts.{tables_given}
+use Rattle.search.proofs.OverEvery.{tables_given}
 use Rattle.search.proofs.theorems.tables_given.Goals as goal
 
 pub returns : goal.returns
-returns c = tables_given
+returns g c = tables_given g.S.Behaves.behaviour

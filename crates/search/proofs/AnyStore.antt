@@ -1,0 +1,95 @@
+-- What every store may do, as a behaviour; and each behaviour's searches are among its searches.
+use Rattle.std.proofs.Common.{◌≡◌, ℕ, true, false, List, ◌∷◌, length, refl}
+use Rattle.std.proofs.lemmas.Bool.{both_ways}
+use Rattle.rows.specs.Rows.{RowData, Meaning}
+use Rattle.stores.specs.Keys.{key}
+use Rattle.stores.specs.Stores.{View, Emptied, Keeps}
+use Rattle.stores.specs.Behaviours.{Behaviour}
+use Rattle.stores.specs.declared.store.Stored.TheVariants.{Kept, Lost}
+use Rattle.search.specs.Search.{Level, Place, BacksUp, Opens, Steps}
+use Rattle.search.specs.Calls.{Table, Call, Answer, over, Goes, Solved, Does}
+use Rattle.search.specs.Histories.{History}
+use Rattle.search.specs.Behaviours.{BacksNew, OpensNew, StepsNew}
+
+-- its states are views, and it may do what any store may
+abbrev pub any : Behaviour
+any = record {
+  State = View;
+  view = λ v. v;
+  empties = λ v w. Emptied w;
+  keeps = Keeps;
+  empties_lawfully = λ v w e. e;
+  keeps_lawfully = λ v w k a h. h;
+}
+
+-- ---- what is done over a store of the behaviour b may be done over any
+
+module _ (b : Behaviour) (m : Meaning) where
+  pub backs_any : {rows : List RowData} {ls : List Level} {s : b.State} {p : Place} {t : b.State} {n k : ℕ} → BacksUp b m rows ls s p t n k
+      → BacksUp any m rows ls (b.view s) p (b.view t) n k
+  backs_any (BacksUp.root s) = BacksUp.root (b.view s)
+  backs_any (BacksUp.next l ls s z) = BacksUp.next l ls (b.view s) z
+  backs_any {rows} (BacksUp.keeps l ls s t u p n k z K B) =
+      BacksUp.keeps l ls (b.view s) (b.view t) (b.view u) p n k z (b.keeps_lawfully s t (key m rows l.sets) Kept K) (backs_any B)
+  backs_any {rows} (BacksUp.loses l ls s t u p n k z K B) =
+      BacksUp.loses l ls (b.view s) (b.view t) (b.view u) p n k z (b.keeps_lawfully s t (key m rows l.sets) Lost K) (backs_any B)
+
+  pub opens_any : {rows : List RowData} {sets : List ℕ} {ls : List Level} {s : b.State} {p : Place} {t : b.State} {n k : ℕ} → Opens b m rows sets ls s p t n k
+      → Opens any m rows sets ls (b.view s) p (b.view t) n k
+  opens_any (Opens.finds p h) = Opens.finds p h
+  opens_any (Opens.branches l h) = Opens.branches l h
+  opens_any (Opens.dies p t n k h B) = Opens.dies p (b.view t) n k h (backs_any B)
+  opens_any (Opens.hits p t n k h B) = Opens.hits p (b.view t) n k h (backs_any B)
+
+  pub steps_any : {voices : List ℕ} {rows : List RowData} {p : Place} {s : b.State} {q : Place} {t : b.State} {n k : ℕ} → Steps b m voices rows p s q t n k
+      → Steps any m voices rows p (b.view s) q (b.view t) n k
+  steps_any (Steps.first s t p n k O) = Steps.first (b.view s) (b.view t) p n k (opens_any O)
+  steps_any (Steps.again l ls s t p n k O) = Steps.again l ls (b.view s) (b.view t) p n k (opens_any O)
+
+  pub goes_any : {n : ℕ} {t : Table} {s : b.State} {u : Table} {r : b.State} → Goes b m n t s u r → Goes any m n t (b.view s) u (b.view r)
+  goes_any (Goes.stay t s) = Goes.stay t (b.view s)
+  goes_any (Goes.more i t u s r x p n k S G) = Goes.more i t u (b.view s) (b.view r) (b.view x) p n k (steps_any S) (goes_any G)
+
+  pub does_any : {t : Table} {s : b.State} {c : Call} {a : Answer} {u : Table} {r : b.State} → Does b m t s c a u r → Does any m t (b.view s) c a u (b.view r)
+  does_any (Does.declines c n j) = Does.declines c n j
+  does_any {s = s} (Does.declares set r j e) = Does.declares set (b.view r) j (b.empties_lawfully s r e)
+  does_any {s = s} (Does.posts bs r j e) = Does.posts bs (b.view r) j (b.empties_lawfully s r e)
+  does_any {s = s} (Does.wipes r e) = Does.wipes (b.view r) (b.empties_lawfully s r e)
+  does_any (Does.solves budget u r j S) =
+      Does.solves budget u (b.view r) j (record { count = S.count; inside = S.inside; goes = goes_any S.goes; ends = S.ends })
+  does_any (Does.reads buffer p j e) = Does.reads buffer p j e
+
+  pub history_any : {g : b.State} {h : List (Call × Answer)} {t : Table} {s : b.State} → History b m g h t s → History any m (b.view g) h t (b.view s)
+  history_any {g} (History.made s e) = History.made (b.view s) (b.empties_lawfully g s e)
+  history_any (History.then h t u s r c a H f D) = History.then h t u (b.view s) (b.view r) c a (history_any H) f (does_any D)
+
+  -- keys that are new there are new here
+  backs_new : {rows : List RowData} {ls : List Level} {s : b.State} {p : Place} {t : b.State} {n k : ℕ} (B : BacksUp b m rows ls s p t n k) → BacksNew (backs_any B) → BacksNew B
+  unfolding backs_any
+  backs_new (BacksUp.root s) h = tt
+  backs_new (BacksUp.next l ls s z) h = tt
+  backs_new (BacksUp.keeps l ls s t u p n k z K B) h = (h.0, backs_new B h.1)
+  backs_new (BacksUp.loses l ls s t u p n k z K B) h = (h.0, backs_new B h.1)
+
+  opens_new : {rows : List RowData} {sets : List ℕ} {ls : List Level} {s : b.State} {p : Place} {t : b.State} {n k : ℕ} (O : Opens b m rows sets ls s p t n k)
+      → OpensNew (opens_any O) → OpensNew O
+  unfolding opens_any
+  opens_new (Opens.finds p h) y = tt
+  opens_new (Opens.branches l h) y = tt
+  opens_new (Opens.dies p t n k h B) y = backs_new B y
+  opens_new (Opens.hits p t n k h B) y = backs_new B y
+
+  pub steps_new : {voices : List ℕ} {rows : List RowData} {p : Place} {s : b.State} {q : Place} {t : b.State} {n k : ℕ} (S : Steps b m voices rows p s q t n k)
+      → StepsNew (steps_any S) → StepsNew S
+  unfolding steps_any
+  steps_new (Steps.first s t p n k O) y = opens_new O y
+  steps_new (Steps.again l ls s t p n k O) y = opens_new O y
+
+  -- a Solve of a search that is over leaves the store
+  pub steps_open : {voices : List ℕ} {rows : List RowData} {p : Place} {s : b.State} {q : Place} {t : b.State} {n k : ℕ} → Steps b m voices rows p s q t n k → over p ≡ false
+  steps_open (Steps.first s t p n k O) = refl
+  steps_open (Steps.again l ls s t p n k O) = refl
+
+  pub goes_over : {n : ℕ} {t : Table} {s : b.State} {u : Table} {r : b.State} → Goes b m n t s u r → over t.place ≡ true → r ≡ s
+  goes_over (Goes.stay t s) o = refl
+  goes_over (Goes.more i t u s r x p n k S G) o = absurd (both_ways (over t.place) (steps_open S) o)

@@ -1,0 +1,58 @@
+-- The laws of the search over every behaviour of a store.
+use Rattle.std.proofs.Common.{◌≡◌, ℕ, ◌≤◌, true, false, ◌↔◌, List, ◌∷◌, ◌++◌}
+use Rattle.rows.specs.Rows.{Meaning}
+use Rattle.rows.specs.Laws.{Laws}
+use Rattle.stores.specs.Behaviours.{Behaviour}
+use Rattle.search.specs.Calls.{Table, Call, Answer, Judgement, judged, over, Does}
+use Rattle.search.specs.Calls.Call.{solve}
+use Rattle.search.specs.Theorems.{SearchStands, BranchesLowest, LevelsRise, NeverTwice, AnswersStand, ReadsStand, TablesGiven, ResultsAgree, SolveKeepsBudget, LimitsStand, StoresAgree}
+use Rattle.search.proofs.AnyStore.{history_any, goes_any, steps_any, does_any, steps_new, goes_over}
+use Rattle.search.proofs.HistoryFacts as histories
+use Rattle.search.proofs.HistoryFacts.{not_both}
+use Rattle.search.proofs.BranchingFacts as branching
+use Rattle.search.proofs.AnswerFacts as answers
+use Rattle.search.proofs.LimitFacts as limits
+use Rattle.search.proofs.NeverTwice as twice
+use Rattle.search.proofs.StoreFacts as stores
+
+module _ (b : Behaviour) where
+  pub search_stands : SearchStands b
+  search_stands m L g h t s H = histories.search_stands m L h t (b.view s) (history_any b m H)
+
+  pub branches_lowest : BranchesLowest b
+  branches_lowest m L g h t s H n u r G = branching.branches_lowest m L h t (b.view s) (history_any b m H) n u (b.view r) (goes_any b m G)
+
+  pub levels_rise : LevelsRise b
+  levels_rise m g h t s H n u r G = branching.levels_rise m h t (b.view s) (history_any b m H) n u (b.view r) (goes_any b m G)
+
+  pub never_twice : NeverTwice b
+  never_twice m L g h t s H n u r G p x i k S =
+      steps_new b m S (twice.never_twice m L h t (b.view s) (history_any b m H) n u (b.view r) (goes_any b m G) p (b.view x) i k (steps_any b m S))
+
+  pub answers_stand : AnswersStand b
+  answers_stand m L g later before budget a t s H = answers.answers_stand m L later before budget a t (b.view s) (history_any b m H)
+
+  pub reads_stand : ReadsStand b
+  reads_stand m L g later before buffer n left t s H = answers.reads_stand m L later before buffer n left t (b.view s) (history_any b m H)
+
+  pub tables_given : TablesGiven b
+  tables_given m g h t s H = answers.tables_given m h t (b.view s) (history_any b m H)
+
+  pub limits_stand : LimitsStand b
+  limits_stand m g h t s H = limits.limits_stand m h t (b.view s) (history_any b m H)
+
+  solve_leaves : (m : Meaning) (t : Table) (s : b.State) (budget : ℕ) (a : Answer) (u : Table) (r : b.State)
+      → judged m t (solve budget) ≡ Judgement.passes → Does b m t s (solve budget) a u r → over t.place ≡ true → r ≡ s
+  solve_leaves m t s budget a u r j (Does.declines c n d) o = absurd (not_both d j)
+  solve_leaves m t s budget a u r j (Does.solves budget' u' r' _ S) o = goes_over b m S.goes o
+
+  pub solve_keeps_budget : SolveKeepsBudget b
+  solve_keeps_budget m t s budget a u r j D = (answers.solve_keeps_budget m t (b.view s) budget a u (b.view r) j (does_any b m D), solve_leaves m t s budget a u r j D)
+
+pub results_agree : (b b' : Behaviour) → ResultsAgree b b'
+results_agree b b' m m' L L' g g' later later' h h' budget budget' a a' t t' s s' H H' f f' =
+    answers.results_agree m m' L L' later later' h h' budget budget' a a' t t' (b.view s) (b'.view s') (history_any b m H) (history_any b' m' H') f f'
+
+pub stores_agree : (b b' : Behaviour) → StoresAgree b b'
+stores_agree b b' m t s s' c a a' u u' r r' k D D' x y =
+    stores.stores_agree m t (b.view s) (b'.view s') c a a' u u' (b.view r) (b'.view r') k (does_any b m D) (does_any b' m D') x y
