@@ -7,6 +7,7 @@ use Rattle.sets.specs.Placings.{some_empty, all_fixed, values}
 use Rattle.rows.specs.Rows.{RowData, Meaning}
 use Rattle.stores.specs.Keys.{key}
 use Rattle.stores.specs.Stores.{View, member}
+use Rattle.stores.specs.Behaviours.{Behaviour}
 use Rattle.search.specs.Propagation.{propagated}
 use Rattle.search.specs.Search.{Level, Node, Place, BacksUp, Opens, node, below, first_open, level_of}
 use Rattle.search.specs.Search.Place.{going, found}
@@ -121,34 +122,34 @@ pub failed : (r : code.Node) (t : List ℕ) → (r ≡ Dead) ⊎ (r ≡ Hit) →
 failed r t (inl e) = subst (λ (x : code.Node). Fails (node_of x t)) (sym e) tt
 failed r t (inr e) = subst (λ (x : code.Node). Fails (node_of x t)) (sym e) tt
 
-module _ (m : Meaning) (rows : List RowData) (s t : List ℕ) (ls : List Level) (v : View) where
-  at_node : {x : Node} → t ≡ propagated m rows s → node m rows v (below ls) t ≡ x → node m rows v (below (tried ls)) (propagated m rows s) ≡ x
-  at_node e h = ap₂ (node m rows v) (below_tried ls) (sym e) ∙ h
+module _ (st : Behaviour) (m : Meaning) (rows : List RowData) (s t : List ℕ) (ls : List Level) (v : st.State) where
+  at_node : {x : Node} → t ≡ propagated m rows s → node m rows (st.view v) (below ls) t ≡ x → node m rows (st.view v) (below (tried ls)) (propagated m rows s) ≡ x
+  at_node e h = ap₂ (node m rows (st.view v)) (below_tried ls) (sym e) ∙ h
 
-  opens_failed : (x : Node) (p : Place) (w : View) (n k : ℕ) → Fails x → node m rows v (below (tried ls)) (propagated m rows s) ≡ x → BacksUp m rows (tried ls) v p w n k
-      → Opens m rows s (tried ls) v p w n k
+  opens_failed : (x : Node) (p : Place) (w : st.State) (n k : ℕ) → Fails x → node m rows (st.view v) (below (tried ls)) (propagated m rows s) ≡ x → BacksUp st m rows (tried ls) v p w n k
+      → Opens st m rows s (tried ls) v p w n k
   opens_failed dead p w n k f h b = Opens.dies p w n k h b
   opens_failed hit p w n k f h b = Opens.hits p w n k h b
   opens_failed (solution q) p w n k f h b = absurd f
   opens_failed (branch l) p w n k f h b = absurd f
 
-  pub opened_failed : (x : Node) (under : List Level) (w : View) (rest : List Level) (y : List ℕ) (n i : ℕ) → Fails x → t ≡ propagated m rows s → node m rows v (below ls) t ≡ x
-      → under ≡ tried ls → i ≡ n → Backed m rows under v rest w n → Opened m rows s (tried ls) v (place_of Exhausted y rest) w i
+  pub opened_failed : (x : Node) (under : List Level) (w : st.State) (rest : List Level) (y : List ℕ) (n i : ℕ) → Fails x → t ≡ propagated m rows s → node m rows (st.view v) (below ls) t ≡ x
+      → under ≡ tried ls → i ≡ n → Backed st m rows under v rest w n → Opened st m rows s (tried ls) v (place_of Exhausted y rest) w i
   opened_failed x under w rest y n i f e h q j b =
-      let c : Backed m rows (tried ls) v rest w i = subst (λ a. Backed m rows (tried ls) v rest w a) (sym j) (subst (λ a. Backed m rows a v rest w n) q b) in
-      record { lost = c.lost; opens = subst (λ p. Opens m rows s (tried ls) v p w i c.lost) (place_spent y rest) (opens_failed x (stop rest) w i c.lost f (at_node e h) c.backs) }
+      let c : Backed st m rows (tried ls) v rest w i = subst (λ a. Backed st m rows (tried ls) v rest w a) (sym j) (subst (λ a. Backed st m rows a v rest w n) q b) in
+      record { lost = c.lost; opens = subst (λ p. Opens st m rows s (tried ls) v p w i c.lost) (place_spent y rest) (opens_failed x (stop rest) w i c.lost f (at_node e h) c.backs) }
 
-  pub opened_solution : (rest : List Level) (y : List ℕ) (i : ℕ) → t ≡ propagated m rows s → node m rows v (below ls) t ≡ solution (values t) → rest ≡ [] → y ≡ t → i ≡ 0
-      → Opened m rows s (tried ls) v (place_of Found y rest) v i
+  pub opened_solution : (rest : List Level) (y : List ℕ) (i : ℕ) → t ≡ propagated m rows s → node m rows (st.view v) (below ls) t ≡ solution (values t) → rest ≡ [] → y ≡ t → i ≡ 0
+      → Opened st m rows s (tried ls) v (place_of Found y rest) v i
   opened_solution rest y i e h q z j =
-      subst (λ a. Opened m rows s (tried ls) v (place_of Found y a) v i) (sym q)
-      (subst (λ a. Opened m rows s (tried ls) v (place_of Found a []) v i) (sym z)
-      (subst (λ a. Opened m rows s (tried ls) v (found (values t)) v a) (sym j)
+      subst (λ a. Opened st m rows s (tried ls) v (place_of Found y a) v i) (sym q)
+      (subst (λ a. Opened st m rows s (tried ls) v (place_of Found a []) v i) (sym z)
+      (subst (λ a. Opened st m rows s (tried ls) v (found (values t)) v a) (sym j)
       (record { lost = 0; opens = Opens.finds (values t) (at_node e h) })))
 
-  pub opened_branch : (l : Level) (rest : List Level) (z : End) (y : List ℕ) (i : ℕ) → t ≡ propagated m rows s → node m rows v (below ls) t ≡ branch l → rest ≡ l ∷ tried ls → i ≡ 0
-      → Opened m rows s (tried ls) v (place_of z y rest) v i
+  pub opened_branch : (l : Level) (rest : List Level) (z : End) (y : List ℕ) (i : ℕ) → t ≡ propagated m rows s → node m rows (st.view v) (below ls) t ≡ branch l → rest ≡ l ∷ tried ls → i ≡ 0
+      → Opened st m rows s (tried ls) v (place_of z y rest) v i
   opened_branch l rest z y i e h q j =
-      subst (λ r. Opened m rows s (tried ls) v (place_of z y r) v i) (sym q)
-      (subst (λ a. Opened m rows s (tried ls) v (going l (tried ls)) v a) (sym j)
+      subst (λ r. Opened st m rows s (tried ls) v (place_of z y r) v i) (sym q)
+      (subst (λ a. Opened st m rows s (tried ls) v (going l (tried ls)) v a) (sym j)
       (record { lost = 0; opens = Opens.branches l (at_node e h) }))

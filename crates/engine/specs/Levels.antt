@@ -1,7 +1,7 @@
 -- Levels as memory holds them: their records, the oldest first, and the sets of all of them, n to a level, in one list (the trail).
 use Rattle.std.specs.Prelude.{ℕ, zero, suc, ◌*◌, ◌<◌, ◌≤◌, Bool, true, false, List, [], ◌∷◌, length, take, drop, ◌==◌, slice_index_or}
 use Rattle.rows.specs.Rows.{RowData, Meaning}
-use Rattle.stores.specs.Stores.{View, Keeps}
+use Rattle.stores.specs.Behaviours.{Behaviour}
 use Rattle.stores.specs.declared.store.Stored.{Stored}
 use Rattle.search.specs.Search.{Level, Place, BacksUp, child, taken}
 use Rattle.search.specs.Search.Place.{going, none}
@@ -63,11 +63,11 @@ abbrev pub stop : List Level → Place
 stop [] = none
 stop (l ∷ ls) = going l ls
 
--- what a store may be once the key was given to it, whatever it answered
-abbrev pub Given : View → List ℕ → View → Type 0
-Given v k w = (r : Stored) × Keeps v k r w
+-- the state that a store may be in once the key was given to it, whatever it answered
+abbrev pub Given : (b : Behaviour) → b.State → List ℕ → b.State → Type 0
+Given b s k t = (r : Stored) × b.keeps s k r t
 
 -- backing up from a failed node below the levels ls leaves the levels rest; n levels are exhausted
-pub record Backed (m : Meaning) (rows : List RowData) (ls : List Level) (v : View) (rest : List Level) (w : View) (n : ℕ) : Type 0 where
+pub record Backed (b : Behaviour) (m : Meaning) (rows : List RowData) (ls : List Level) (s : b.State) (rest : List Level) (t : b.State) (n : ℕ) : Type 0 where
   pub lost : ℕ
-  pub backs : BacksUp m rows ls v (stop rest) w n lost
+  pub backs : BacksUp b m rows ls s (stop rest) t n lost

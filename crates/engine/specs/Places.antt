@@ -2,7 +2,7 @@
 use Rattle.std.specs.Prelude.{ℕ, List, [], ◌∷◌}
 use Rattle.sets.specs.Placings.{values}
 use Rattle.rows.specs.Rows.{RowData, Meaning}
-use Rattle.stores.specs.Stores.{View}
+use Rattle.stores.specs.Behaviours.{Behaviour}
 use Rattle.search.specs.Search.{Level, Place, Opens}
 use Rattle.search.specs.Search.Place.{fresh, going, found, none}
 use Rattle.engine.specs.declared.level.End.{End}
@@ -19,7 +19,7 @@ abbrev pub place_of : End → List ℕ → List Level → Place
 place_of e s [] = ended e s
 place_of e s (l ∷ ls) = going l ls
 
--- the node with the sets s is opened below the levels ls; n levels are exhausted
-pub record Opened (m : Meaning) (rows : List RowData) (s : List ℕ) (ls : List Level) (v : View) (p : Place) (w : View) (n : ℕ) : Type 0 where
+-- the node with these sets is opened below the levels ls; n levels are exhausted
+pub record Opened (b : Behaviour) (m : Meaning) (rows : List RowData) (sets : List ℕ) (ls : List Level) (s : b.State) (p : Place) (t : b.State) (n : ℕ) : Type 0 where
   pub lost : ℕ
-  pub opens : Opens m rows s ls v p w n lost
+  pub opens : Opens b m rows sets ls s p t n lost

@@ -1,7 +1,7 @@
 -- What the state of a search says.
 use Rattle.std.specs.Prelude.{◌≡◌, ℕ, ◌+◌, List, [], vec_items, vec_len}
 use Rattle.rows.specs.Rows.{RowData, Meaning}
-use Rattle.stores.specs.Stores.{View}
+use Rattle.stores.specs.Behaviours.{Behaviour}
 use Rattle.search.specs.Search.{Level, Place}
 use Rattle.search.specs.Search.Place.{fresh, going, found, none}
 use Rattle.search.specs.Calls.{Table, Goes, Solved}
@@ -54,11 +54,11 @@ outcome_of (found p) = Found
 outcome_of none = None
 
 -- n nodes are opened, whatever was lost before
-pub record Ran (m : Meaning) (n : ℕ) (t : ℕ → Table) (v : View) (u : ℕ → Table) (w : View) : Type 0 where
+pub record Ran (b : Behaviour) (m : Meaning) (n : ℕ) (t : ℕ → Table) (s : b.State) (u : ℕ → Table) (r : b.State) : Type 0 where
   pub lost : ℕ
-  pub goes : (j : ℕ) → Goes m n (t j) v (u (j + lost)) w
+  pub goes : (j : ℕ) → Goes b m n (t j) s (u (j + lost)) r
 
--- nodes are opened with the budget b, whatever was lost before
-pub record Runs (m : Meaning) (b : ℕ) (t : ℕ → Table) (v : View) (u : ℕ → Table) (w : View) : Type 0 where
+-- nodes are opened with this budget, whatever was lost before
+pub record Runs (b : Behaviour) (m : Meaning) (budget : ℕ) (t : ℕ → Table) (s : b.State) (u : ℕ → Table) (r : b.State) : Type 0 where
   pub lost : ℕ
-  pub solved : (j : ℕ) → Solved m b (t j) v (u (j + lost)) w
+  pub solved : (j : ℕ) → Solved b m budget (t j) s (u (j + lost)) r

@@ -42,7 +42,7 @@ impl KeyBuffer {
     ) -> bool
         requires sets { length sets.now ≤ most_voices }
         requires rows { length rows.now ≤ most_rows }
-        ensures { result ≡ member (key B.Bank.meaning (rows_of rows.now) sets.now) (S.Store.view store.now).held }
+        ensures { result ≡ member (key B.Bank.meaning (rows_of rows.now) sets.now) (S.Store.behaviour.view (S.Store.state store.now)).held }
     {
         if store.is_empty() {
             return false;
@@ -57,7 +57,7 @@ impl KeyBuffer {
     pub(crate) fn give<B: Bank, S: Store>(&mut self, rows: &[Row], sets: &[ValueSet], store: &mut S)
         requires sets { length sets.now ≤ most_voices }
         requires rows { length rows.now ≤ most_rows }
-        ensures { Given (S.Store.view store.old) (key B.Bank.meaning (rows_of rows.now) sets.now) (S.Store.view store.new) }
+        ensures { Given S.Store.behaviour (S.Store.state store.old) (key B.Bank.meaning (rows_of rows.now) sets.now) (S.Store.state store.new) }
     {
         if store.turns_away(sets.len() + 2 * rows.len()) {
             return;

@@ -23,7 +23,7 @@ impl Levels {
         ensures width { self.new.width ≡ self.old.width }
         ensures few { result ≤ self.old.width }
         ensures lasts { is_spent (listed self.new) ≡ false }
-        ensures backs { Backed B.Bank.meaning (rows_of rows.now) (listed self.old) (S.Store.view store.old) (listed self.new) (S.Store.view store.new) result }
+        ensures backs { Backed S.Store.behaviour B.Bank.meaning (rows_of rows.now) (listed self.old) (S.Store.state store.old) (listed self.new) (S.Store.state store.new) result }
     {
         let mut exhausted = 0;
         while self.is_spent() {

@@ -41,7 +41,7 @@ impl Search {
         requires ready { Ready B.Bank.meaning (rows_of rows.now) (node_sets self.old) }
         ensures same { SamePlace self.old self.new }
         ensures after { node_sets self.new ≡ propagated B.Bank.meaning (rows_of rows.now) (node_sets self.old) }
-        ensures value { node B.Bank.meaning (rows_of rows.now) (S.Store.view store.now) (below (levels_of self.old)) (node_sets self.new) ≡ node_of result (node_sets self.new) }
+        ensures value { node B.Bank.meaning (rows_of rows.now) (S.Store.behaviour.view (S.Store.state store.now)) (below (levels_of self.old)) (node_sets self.new) ≡ node_of result (node_sets self.new) }
         ensures branches { Branches result (below (levels_of self.old)) (node_sets self.new) }
     {
         propagate::<B>(rows, &mut self.sets);

@@ -23,7 +23,7 @@ impl Search {
         requires rows { length rows.now ≤ most_rows }
         requires few { self.old.opened < most_opened }
         requires ready { Ready B.Bank.meaning (rows_of rows.now) (node_sets self.old) }
-        ensures opens { Opened B.Bank.meaning (rows_of rows.now) (node_sets self.old) (tried (levels_of self.old)) (S.Store.view store.old) (place self.new) (S.Store.view store.new) (self.new.exhausted - self.old.exhausted) }
+        ensures opens { Opened S.Store.behaviour B.Bank.meaning (rows_of rows.now) (node_sets self.old) (tried (levels_of self.old)) (S.Store.state store.old) (place self.new) (S.Store.state store.new) (self.new.exhausted - self.old.exhausted) }
         ensures more { self.old.exhausted ≤ self.new.exhausted }
         ensures voices { voice_count self.new ≡ voice_count self.old }
         ensures count { self.new.opened ≡ self.old.opened + 1 }
@@ -52,7 +52,7 @@ impl Search {
         requires rows { length rows.now ≤ most_rows }
         requires few { self.old.opened < most_opened }
         requires ready { Ready B.Bank.meaning (rows_of rows.now) voices.now }
-        ensures goes { Ran B.Bank.meaning 1 (table_of voices.now (rows_of rows.now) self.old) (S.Store.view store.old) (table_of voices.now (rows_of rows.now) self.new) (S.Store.view store.new) }
+        ensures goes { Ran S.Store.behaviour B.Bank.meaning 1 (table_of voices.now (rows_of rows.now) self.old) (S.Store.state store.old) (table_of voices.now (rows_of rows.now) self.new) (S.Store.state store.new) }
         ensures voices { voice_count self.new ≡ voice_count self.old }
         ensures count { self.new.opened ≡ self.old.opened + 1 }
     {
@@ -72,7 +72,7 @@ impl Search {
         requires rows { length rows.now ≤ most_rows }
         requires few { self.old.opened + budget ≤ most_opened }
         requires ready { Ready B.Bank.meaning (rows_of rows.now) voices.now }
-        ensures runs { Runs B.Bank.meaning budget (table_of voices.now (rows_of rows.now) self.old) (S.Store.view store.old) (table_of voices.now (rows_of rows.now) self.new) (S.Store.view store.new) }
+        ensures runs { Runs S.Store.behaviour B.Bank.meaning budget (table_of voices.now (rows_of rows.now) self.old) (S.Store.state store.old) (table_of voices.now (rows_of rows.now) self.new) (S.Store.state store.new) }
         ensures voices { voice_count self.new ≡ voice_count self.old }
     {
         for _ in 0..budget {

@@ -8,7 +8,7 @@ use Rattle.engine.proofs.keys.KeyBuffer.find.Goals as goal
 
 pub returns-then-is_empty : goal.returns-then-is_empty
 returns-then-is_empty g c =
-    sym (ap (member (key g.B.Bank.meaning (rows_of c.args.rows.now) c.args.sets.now)) (c.if-is_empty.ensures.0 refl))
+    sym (ap (member (key g.B.Bank.meaning (rows_of c.args.rows.now) c.args.sets.now)) (c.if-is_empty.ensures refl))
 
 pub returns-in-None : goal.returns-in-None
 returns-in-None g c =

@@ -1,17 +1,16 @@
-use Rattle.std.proofs.Common.{◌≡◌, ℕ, ◌≤◌, false, length, sym, refl, subst, arith}
+use Rattle.std.proofs.Common.{◌≡◌, ℕ, ◌≤◌, false, cond, length, sym, refl, subst, arith}
 use Rattle.rows.specs.Views.{rows_of}
 use Rattle.stores.specs.Keys.{key}
-use Rattle.stores.specs.Stores.{fits}
+use Rattle.stores.specs.Stores.{member}
+use Rattle.stores.specs.declared.store.Stored.TheVariants.{Kept, Lost}
 use Rattle.stores.proofs.Writing.{key_length}
-use Rattle.stores.proofs.Keeping.{turned_away}
 use Rattle.engine.proofs.Tests.{key_not}
 use Rattle.engine.proofs.keys.KeyBuffer.give.Goals as goal
 
 pub returns-then-turns_away : goal.returns-then-turns_away
 returns-then-turns_away g c =
-    let v = g.S.Store.view c.args.store.now in
-    turned_away v (key g.B.Bank.meaning (rows_of c.args.rows.now) c.args.sets.now)
-    (subst (λ (n : ℕ). fits n v.space ≡ false) (sym (key_length g.B.Bank.meaning c.args.rows.now c.args.sets.now)) (c.if-turns_away.ensures refl))
+    let k = key g.B.Bank.meaning (rows_of c.args.rows.now) c.args.sets.now in
+    (cond (member k (g.S.Store.behaviour.view (g.S.Store.state c.args.store.now)).held) Kept Lost, c.if-turns_away.ensures refl k (key_length g.B.Bank.meaning c.args.rows.now c.args.sets.now))
 
 pub returns-in_default : goal.returns-in_default
 returns-in_default g c =

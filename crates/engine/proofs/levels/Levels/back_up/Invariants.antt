@@ -8,7 +8,7 @@ abbrev pub invariant-loop-keys : goal.invariant-loop-keys
 invariant-loop-keys g l = record {
   width : l.self.width ≡ l.initial.self.width;
   count : l.exhausted + vec_len l.self.records ≡ vec_len l.initial.self.records;
-  behind : Behind g.B.Bank.meaning (rows_of l.rows) (listed l.initial.self) (g.S.Store.view l.initial.store) (listed l.self) (g.S.Store.view l.store) l.exhausted;
+  behind : Behind g.S.Store.behaviour g.B.Bank.meaning (rows_of l.rows) (listed l.initial.self) (g.S.Store.state l.initial.store) (listed l.self) (g.S.Store.state l.store) l.exhausted;
 }
 
 abbrev pub decreases-loop-keys : goal.decreases-loop-keys

@@ -17,7 +17,7 @@ pub returns-then-find-clause-value : goal.returns-then-find-clause-value
 returns-then-find-clause-value g c =
     let m = g.B.Bank.meaning in
     let rows = rows_of c.args.rows.now in
-    let v = g.S.Store.view c.args.store.now in
+    let v = g.S.Store.behaviour.view (g.S.Store.state c.args.store.now) in
     let k = below (levels_of c.args.self.now) in
     let t = vec_items (with_items c.args.self.now.sets c.propagate.new.sets) in
     let full : some_empty t ≡ false = sym (c.if-has_empty.ensures ∙ ap some_empty c.deref.ensures.value) in
@@ -29,7 +29,7 @@ pub returns-clause-value : goal.returns-clause-value
 returns-clause-value g c =
     let m = g.B.Bank.meaning in
     let rows = rows_of c.args.rows.now in
-    let v = g.S.Store.view c.args.store.now in
+    let v = g.S.Store.behaviour.view (g.S.Store.state c.args.store.now) in
     let k = below (levels_of c.args.self.now) in
     let t = vec_items (with_items c.args.self.now.sets c.propagate.new.sets) in
     let full : some_empty t ≡ false = sym (c.if-has_empty.ensures ∙ ap some_empty c.deref.ensures.value) in

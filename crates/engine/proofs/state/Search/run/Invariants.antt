@@ -8,5 +8,5 @@ abbrev pub invariant-loop : goal.invariant-loop
 invariant-loop g l = record {
   few : l.self.opened + (l.budget - l.counter) ≤ most_opened;
   voices : voice_count l.self ≡ voice_count l.initial.self;
-  ran : Ran g.B.Bank.meaning l.counter (table_of l.voices (rows_of l.rows) l.initial.self) (g.S.Store.view l.initial.store) (table_of l.voices (rows_of l.rows) l.self) (g.S.Store.view l.store);
+  ran : Ran g.S.Store.behaviour g.B.Bank.meaning l.counter (table_of l.voices (rows_of l.rows) l.initial.self) (g.S.Store.state l.initial.store) (table_of l.voices (rows_of l.rows) l.self) (g.S.Store.state l.store);
 }

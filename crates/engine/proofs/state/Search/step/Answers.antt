@@ -14,7 +14,7 @@ returns-clause-goes g c =
     let t = c.open_node.new.self in
     let n = t.exhausted - s.exhausted in
     let long : length c.read_next.new.sets ≡ s.sets.len = omega arith in
-    ran_one m c.args.voices.now rows (place s) (place t) s.opened s.exhausted t.opened t.exhausted (g.S.Store.view c.args.store.now) (g.S.Store.view c.open_node.new.store) (t.exhausted - s.exhausted)
+    ran_one g.S.Store.behaviour m c.args.voices.now rows (place s) (place t) s.opened s.exhausted t.opened t.exhausted (g.S.Store.state c.args.store.now) (g.S.Store.state c.open_node.new.store) (t.exhausted - s.exhausted)
     c.open_node.ensures.count (omega (arith, c.open_node.ensures.more))
-    (next_step m c.args.voices.now rows (vec_items (with_items s.sets c.read_next.new.sets)) (levels_of s) s.end (node_sets s) (g.S.Store.view c.args.store.now) (g.S.Store.view c.open_node.new.store)
+    (next_step g.S.Store.behaviour m c.args.voices.now rows (vec_items (with_items s.sets c.read_next.new.sets)) (levels_of s) s.end (node_sets s) (g.S.Store.state c.args.store.now) (g.S.Store.state c.open_node.new.store)
     (place t) (t.exhausted - s.exhausted) c.requires.open (with_items_is s.sets c.read_next.new.sets long ∙ c.read_next.ensures.after) c.open_node.ensures.opens)
