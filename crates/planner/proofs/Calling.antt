@@ -6,14 +6,13 @@ use Rattle.sets.specs.Placings.{values}
 use Rattle.rows.specs.Rows.{RowData, Meaning}
 use Rattle.rows.specs.Laws.{Laws}
 use Rattle.rows.specs.Bytes.{decode}
-use Rattle.stores.specs.Stores.{View, IsEmpty, Emptied}
+use Rattle.stores.specs.Behaviours.{Behaviour}
 use Rattle.search.specs.Search.{Level, Place}
 use Rattle.search.specs.Search.Place.{fresh, going, found, none}
 use Rattle.search.specs.Calls.{Table, begun, Call, Answer, Formed, Judgement, judged, is_found, result, says, Does}
 use Rattle.search.specs.Calls.Call.{declare, post, solve, read, wipe}
 use Rattle.search.specs.Histories.{History}
-use Rattle.search.proofs.HistoryFacts.{search_stands}
-use Rattle.search.proofs.AnswerFacts.{answers_stand, reads_stand}
+use Rattle.search.proofs.OverEvery.{search_stands, answers_stand, reads_stand}
 use Rattle.engine.specs.declared.level.End.{End}
 use Rattle.engine.specs.declared.level.End.TheVariants.{Fresh, Found, Exhausted}
 use Rattle.engine.specs.declared.outcome.Outcome.{Outcome}
@@ -27,28 +26,29 @@ use Rattle.planner.specs.Lasting.{Done, Tells, ReadTells, Lasts}
 
 -- ---- what lasts
 
-read_tells : (m : Meaning) → Laws m → (h : List (Call × Answer)) (buffer : List ℕ) (a : Answer) (t : Table) (v : View) → History m ((read buffer, a) ∷ h) t v → ReadTells m h buffer a
-read_tells m L h buffer Answer.done t v H = tt
-read_tells m L h buffer (Answer.refused n) t v H = tt
-read_tells m L h buffer (Answer.found p) t v H = tt
-read_tells m L h buffer Answer.none t v H = tt
-read_tells m L h buffer Answer.stopped t v H = tt
-read_tells m L h buffer (Answer.wrote n b) t v H = reads_stand m L [] h buffer n b t v H
+module _ (st : Behaviour) (m : Meaning) (L : Laws m) where
+  read_tells : (g : st.State) (h : List (Call × Answer)) (buffer : List ℕ) (a : Answer) (t : Table) (v : st.State) → History st m g ((read buffer, a) ∷ h) t v → ReadTells m h buffer a
+  read_tells g h buffer Answer.done t v H = tt
+  read_tells g h buffer (Answer.refused n) t v H = tt
+  read_tells g h buffer (Answer.found p) t v H = tt
+  read_tells g h buffer Answer.none t v H = tt
+  read_tells g h buffer Answer.stopped t v H = tt
+  read_tells g h buffer (Answer.wrote n b) t v H = reads_stand st m L g [] h buffer n b t v H
 
-tells : (m : Meaning) → Laws m → (h : List (Call × Answer)) (c : Call) (a : Answer) (t : Table) (v : View) → History m ((c, a) ∷ h) t v → Tells m h c a
-tells m L h (declare s) a t v H = tt
-tells m L h (post bs) a t v H = tt
-tells m L h (solve b) a t v H = answers_stand m L [] h b a t v H
-tells m L h (read buffer) a t v H = read_tells m L h buffer a t v H
-tells m L h wipe a t v H = tt
+  tells : (g : st.State) (h : List (Call × Answer)) (c : Call) (a : Answer) (t : Table) (v : st.State) → History st m g ((c, a) ∷ h) t v → Tells m h c a
+  tells g h (declare s) a t v H = tt
+  tells g h (post bs) a t v H = tt
+  tells g h (solve b) a t v H = answers_stand st m L g [] h b a t v H
+  tells g h (read buffer) a t v H = read_tells g h buffer a t v H
+  tells g h wipe a t v H = tt
 
-pub lasts_by : (m : Meaning) → Laws m → (t : ℕ → Table) (v : View) (c : Call) (a : Answer) (u : ℕ → Table) (w : View) → Formed c → Done m t v c a u w → Lasts m t v c a u w
-lasts_by m L t v c a u w f d = record {
-  lost = d.lost;
-  history = λ h j H. History.then h (t j) (u (d.lost j)) v w c a H f (d.does j);
-  stands = λ h j H. search_stands m L ((c, a) ∷ h) (u (d.lost j)) w (History.then h (t j) (u (d.lost j)) v w c a H f (d.does j));
-  tells = λ h j H. tells m L h c a (u (d.lost j)) w (History.then h (t j) (u (d.lost j)) v w c a H f (d.does j));
-}
+  pub lasts_by : (t : ℕ → Table) (v : st.State) (c : Call) (a : Answer) (u : ℕ → Table) (w : st.State) → Formed c → Done st m t v c a u w → Lasts st m t v c a u w
+  lasts_by t v c a u w f d = record {
+    lost = d.lost;
+    history = λ g h j H. History.then h (t j) (u (d.lost j)) v w c a H f (d.does j);
+    stands = λ g h j H. search_stands st m L g ((c, a) ∷ h) (u (d.lost j)) w (History.then h (t j) (u (d.lost j)) v w c a H f (d.does j));
+    tells = λ g h j H. tells g h c a (u (d.lost j)) w (History.then h (t j) (u (d.lost j)) v w c a H f (d.does j));
+  }
 
 -- ---- a search that has not begun
 
@@ -62,8 +62,8 @@ begun_table voices rows n s b =
 
 -- ---- what the calls do
 
-pub declines_by : (m : Meaning) (t : ℕ → Table) (v : View) (c : Call) (n : ℕ) → ((j : ℕ) → judged m (t j) c ≡ Judgement.declined n) → Done m t v c (Answer.refused n) t v
-declines_by m t v c n e = record { lost = λ j. j; does = λ j. Does.declines c n (e j) }
+pub declines_by : (st : Behaviour) (m : Meaning) (t : ℕ → Table) (v : st.State) (c : Call) (n : ℕ) → ((j : ℕ) → judged m (t j) c ≡ Judgement.declined n) → Done st m t v c (Answer.refused n) t v
+declines_by st m t v c n e = record { lost = λ j. j; does = λ j. Does.declines c n (e j) }
 
 -- what holds anyway holds where a call is declined
 pub on_err : {P : Type 0} (r : Result (Unit {0}) Refusal) → P → OnErr r P
@@ -71,36 +71,37 @@ on_err (Ok x) p = tt
 on_err (Err refusal) p = p
 
 -- declined, with a row written beyond the table's own
-pub declines_kept : (m : Meaning) (voices : List ℕ) (rows rows' : List RowData) (s : Search) (v : View) (c : Call) (n : ℕ) (a : Answer) → rows' ≡ rows → a ≡ Answer.refused n
-    → ((j : ℕ) → judged m (table_of voices rows s j) c ≡ Judgement.declined n) → Done m (table_of voices rows s) v c a (table_of voices rows' s) v
-declines_kept m voices rows rows' s v c n a e f g =
-    subst (λ (x : List RowData). Done m (table_of voices rows s) v c a (table_of voices x s) v) (sym e)
-    (subst (λ (x : Answer). Done m (table_of voices rows s) v c x (table_of voices rows s) v) (sym f) (declines_by m (table_of voices rows s) v c n g))
+pub declines_kept : (st : Behaviour) (m : Meaning) (voices : List ℕ) (rows rows' : List RowData) (s : Search) (v : st.State) (c : Call) (n : ℕ) (a : Answer) → rows' ≡ rows → a ≡ Answer.refused n
+    → ((j : ℕ) → judged m (table_of voices rows s j) c ≡ Judgement.declined n) → Done st m (table_of voices rows s) v c a (table_of voices rows' s) v
+declines_kept st m voices rows rows' s v c n a e f g =
+    subst (λ (x : List RowData). Done st m (table_of voices rows s) v c a (table_of voices x s) v) (sym e)
+    (subst (λ (x : Answer). Done st m (table_of voices rows s) v c x (table_of voices rows s) v) (sym f) (declines_by st m (table_of voices rows s) v c n g))
 
-pub declares_by : (m : Meaning) (voices voices' : List ℕ) (rows : List RowData) (s s' : Search) (v w : View) (x n : ℕ) → voices' ≡ voices ++ (x ∷ []) → Begun n s'
-    → ((j : ℕ) → judged m (table_of voices rows s j) (declare x) ≡ Judgement.passes) → Emptied v w
-    → Done m (table_of voices rows s) v (declare x) Answer.done (table_of voices' rows s') w
-declares_by m voices voices' rows s s' v w x n e b f h =
+pub declares_by : (st : Behaviour) (m : Meaning) (voices voices' : List ℕ) (rows : List RowData) (s s' : Search) (v w : st.State) (x n : ℕ) → voices' ≡ voices ++ (x ∷ []) → Begun n s'
+    → ((j : ℕ) → judged m (table_of voices rows s j) (declare x) ≡ Judgement.passes) → st.empties v w
+    → Done st m (table_of voices rows s) v (declare x) Answer.done (table_of voices' rows s') w
+declares_by st m voices voices' rows s s' v w x n e b f h =
     let to : table_of voices' rows s' 0 ≡ begun (voices ++ (x ∷ [])) rows = begun_table voices' rows n s' b ∙ ap (λ (y : List ℕ). begun y rows) e in
-    record { lost = λ j. 0; does = λ j. subst (λ (y : Table). Does m (table_of voices rows s j) v (declare x) Answer.done y w) (sym to) (Does.declares x w (f j) h) }
+    record { lost = λ j. 0; does = λ j. subst (λ (y : Table). Does st m (table_of voices rows s j) v (declare x) Answer.done y w) (sym to) (Does.declares x w (f j) h) }
 
-pub posts_by : (m : Meaning) (voices : List ℕ) (rows rows' : List RowData) (s s' : Search) (v w : View) (bs : List ℕ) (n : ℕ) → rows' ≡ rows ++ (decode m bs ∷ []) → Begun n s'
-    → ((j : ℕ) → judged m (table_of voices rows s j) (post bs) ≡ Judgement.passes) → Emptied v w
-    → Done m (table_of voices rows s) v (post bs) Answer.done (table_of voices rows' s') w
-posts_by m voices rows rows' s s' v w bs n e b f h =
+pub posts_by : (st : Behaviour) (m : Meaning) (voices : List ℕ) (rows rows' : List RowData) (s s' : Search) (v w : st.State) (bs : List ℕ) (n : ℕ) → rows' ≡ rows ++ (decode m bs ∷ []) → Begun n s'
+    → ((j : ℕ) → judged m (table_of voices rows s j) (post bs) ≡ Judgement.passes) → st.empties v w
+    → Done st m (table_of voices rows s) v (post bs) Answer.done (table_of voices rows' s') w
+posts_by st m voices rows rows' s s' v w bs n e b f h =
     let to : table_of voices rows' s' 0 ≡ begun voices (rows ++ (decode m bs ∷ [])) = begun_table voices rows' n s' b ∙ ap (λ (y : List RowData). begun voices y) e in
-    record { lost = λ j. 0; does = λ j. subst (λ (y : Table). Does m (table_of voices rows s j) v (post bs) Answer.done y w) (sym to) (Does.posts bs w (f j) h) }
+    record { lost = λ j. 0; does = λ j. subst (λ (y : Table). Does st m (table_of voices rows s j) v (post bs) Answer.done y w) (sym to) (Does.posts bs w (f j) h) }
 
-pub wipes_by : (m : Meaning) (t : ℕ → Table) (voices : List ℕ) (s : Search) (v w : View) (n : ℕ) → voices ≡ [] → Begun n s → Emptied v w
-    → Done m t v wipe Answer.done (table_of voices [] s) w
-wipes_by m t voices s v w n e b h =
+pub wipes_by : (st : Behaviour) (m : Meaning) (t : ℕ → Table) (voices : List ℕ) (s : Search) (v w : st.State) (n : ℕ) → voices ≡ [] → Begun n s → st.empties v w
+    → Done st m t v wipe Answer.done (table_of voices [] s) w
+wipes_by st m t voices s v w n e b h =
     let to : table_of voices [] s 0 ≡ begun [] [] = begun_table voices [] n s b ∙ ap (λ (y : List ℕ). begun y []) e in
-    record { lost = λ j. 0; does = λ j. subst (λ (y : Table). Does m (t j) v wipe Answer.done y w) (sym to) (Does.wipes w h) }
+    record { lost = λ j. 0; does = λ j. subst (λ (y : Table). Does st m (t j) v wipe Answer.done y w) (sym to) (Does.wipes w h) }
 
-pub made_by : (m : Meaning) (voices : List ℕ) (s : Search) (w : View) (n : ℕ) → voices ≡ [] → Begun n s → IsEmpty w → History m [] (table_of voices [] s 0) w
-made_by m voices s w n e b h =
+pub made_by : (st : Behaviour) (m : Meaning) (voices : List ℕ) (s : Search) (g w : st.State) (n : ℕ) → voices ≡ [] → Begun n s → st.empties g w
+    → History st m g [] (table_of voices [] s 0) w
+made_by st m voices s g w n e b h =
     let to : table_of voices [] s 0 ≡ begun [] [] = begun_table voices [] n s b ∙ ap (λ (y : List ℕ). begun y []) e in
-    subst (λ (y : Table). History m [] y w) (sym to) (History.made w h)
+    subst (λ (y : Table). History st m g [] y w) (sym to) (History.made w h)
 
 outcome_says : (p : Place) → outcome_answer (outcome_of p) (result p) ≡ says p
 outcome_says fresh = refl
@@ -108,14 +109,14 @@ outcome_says (going l ls) = refl
 outcome_says (found p) = refl
 outcome_says none = refl
 
-pub solves_by : (m : Meaning) (voices : List ℕ) (rows : List RowData) (s s' : Search) (v w : View) (b : ℕ) (o : Outcome) → o ≡ outcome_of (place s')
-    → ((j : ℕ) → judged m (table_of voices rows s j) (solve b) ≡ Judgement.passes) → Runs m b (table_of voices rows s) v (table_of voices rows s') w
-    → Done m (table_of voices rows s) v (solve b) (outcome_answer o (result (place s'))) (table_of voices rows s') w
-solves_by m voices rows s s' v w b o e f r =
+pub solves_by : (st : Behaviour) (m : Meaning) (voices : List ℕ) (rows : List RowData) (s s' : Search) (v w : st.State) (b : ℕ) (o : Outcome) → o ≡ outcome_of (place s')
+    → ((j : ℕ) → judged m (table_of voices rows s j) (solve b) ≡ Judgement.passes) → Runs st m b (table_of voices rows s) v (table_of voices rows s') w
+    → Done st m (table_of voices rows s) v (solve b) (outcome_answer o (result (place s'))) (table_of voices rows s') w
+solves_by st m voices rows s s' v w b o e f r =
     let a : outcome_answer o (result (place s')) ≡ says (place s') = ap (λ (x : Outcome). outcome_answer x (result (place s'))) e ∙ outcome_says (place s') in
     record {
       lost = λ j. j + r.lost;
-      does = λ j. subst (λ (x : Answer). Does m (table_of voices rows s j) v (solve b) x (table_of voices rows s' (j + r.lost)) w) (sym a)
+      does = λ j. subst (λ (x : Answer). Does st m (table_of voices rows s j) v (solve b) x (table_of voices rows s' (j + r.lost)) w) (sym a)
           (Does.solves b (table_of voices rows s' (j + r.lost)) w (f j) (r.solved j));
     }
 
@@ -145,22 +146,22 @@ found_place Fresh w (l ∷ ls) h = cc
 found_place Found w (l ∷ ls) h = cc
 found_place Exhausted w (l ∷ ls) h = cc
 
-pub reads_by : (m : Meaning) (voices : List ℕ) (rows : List RowData) (s : Search) (v : View) (sets buffer after : List ℕ) → place s ≡ found (values sets)
+pub reads_by : (st : Behaviour) (m : Meaning) (voices : List ℕ) (rows : List RowData) (s : Search) (v : st.State) (sets buffer after : List ℕ) → place s ≡ found (values sets)
     → after ≡ values sets ++ drop (length sets) buffer → ((j : ℕ) → judged m (table_of voices rows s j) (read buffer) ≡ Judgement.passes)
-    → Done m (table_of voices rows s) v (read buffer) (Answer.wrote (length sets) after) (table_of voices rows s) v
-reads_by m voices rows s v sets buffer after e f g =
+    → Done st m (table_of voices rows s) v (read buffer) (Answer.wrote (length sets) after) (table_of voices rows s) v
+reads_by st m voices rows s v sets buffer after e f g =
     let n : length (values sets) ≡ length sets = length-map sets least in
     let a : Answer.wrote (length (values sets)) (values sets ++ drop (length (values sets)) buffer) ≡ Answer.wrote (length sets) after =
     ap (λ (k : ℕ). Answer.wrote k (values sets ++ drop k buffer)) n ∙ ap (λ (y : List ℕ). Answer.wrote (length sets) y) (sym f) in
     record {
       lost = λ j. j;
-      does = λ j. subst (λ (x : Answer). Does m (table_of voices rows s j) v (read buffer) x (table_of voices rows s j) v) a (Does.reads buffer (values sets) (g j) e);
+      does = λ j. subst (λ (x : Answer). Does st m (table_of voices rows s j) v (read buffer) x (table_of voices rows s j) v) a (Does.reads buffer (values sets) (g j) e);
     }
 
 -- ---- from slices to fields
 
-pub runs_moved : (m : Meaning) (voices voices' : List ℕ) (rows rows' : List RowData) (s s' : Search) (v w : View) (b : ℕ) → voices' ≡ voices → rows' ≡ rows
-    → Runs m b (table_of voices' rows' s) v (table_of voices' rows' s') w → Runs m b (table_of voices rows s) v (table_of voices rows s') w
-runs_moved m voices voices' rows rows' s s' v w b e f r =
-    subst (λ (x : List RowData). Runs m b (table_of voices x s) v (table_of voices x s') w) f
-    (subst (λ (x : List ℕ). Runs m b (table_of x rows' s) v (table_of x rows' s') w) e r)
+pub runs_moved : (st : Behaviour) (m : Meaning) (voices voices' : List ℕ) (rows rows' : List RowData) (s s' : Search) (v w : st.State) (b : ℕ) → voices' ≡ voices → rows' ≡ rows
+    → Runs st m b (table_of voices' rows' s) v (table_of voices' rows' s') w → Runs st m b (table_of voices rows s) v (table_of voices rows s') w
+runs_moved st m voices voices' rows rows' s s' v w b e f r =
+    subst (λ (x : List RowData). Runs st m b (table_of voices x s) v (table_of voices x s') w) f
+    (subst (λ (x : List ℕ). Runs st m b (table_of x rows' s) v (table_of x rows' s') w) e r)

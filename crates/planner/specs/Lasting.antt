@@ -1,16 +1,16 @@
 -- What a call does, and what lasts over whole histories of calls.
 use Rattle.std.specs.Prelude.{ℕ, List, ◌∷◌}
 use Rattle.rows.specs.Rows.{Meaning}
-use Rattle.stores.specs.Stores.{View}
+use Rattle.stores.specs.Behaviours.{Behaviour}
 use Rattle.search.specs.Calls.{Table, Call, Answer, Does}
 use Rattle.search.specs.Calls.Call.{declare, post, solve, read, wipe}
 use Rattle.search.specs.Histories.{History, declared, posted}
 use Rattle.search.specs.Results.{Stands, Says, Reads}
 
--- A call takes the table t and the store v to the table u and the store w, however many keys were lost before; `lost` says how many are lost then.
-pub record Done (m : Meaning) (t : ℕ → Table) (v : View) (c : Call) (a : Answer) (u : ℕ → Table) (w : View) : Type 0 where
+-- A call takes the table t and its store's state s to the table u and the state r, however many keys were lost before; `lost` says how many are lost then.
+pub record Done (b : Behaviour) (m : Meaning) (t : ℕ → Table) (s : b.State) (c : Call) (a : Answer) (u : ℕ → Table) (r : b.State) : Type 0 where
   pub lost : ℕ → ℕ
-  pub does : (j : ℕ) → Does m (t j) v c a (u (lost j)) w
+  pub does : (j : ℕ) → Does b m (t j) s c a (u (lost j)) r
 
 -- what an answer of Read says of the calls before it
 abbrev pub ReadTells : Meaning → List (Call × Answer) → List ℕ → Answer → Type 0
@@ -30,10 +30,10 @@ Tells m h (solve b) a = Says m (declared h) (posted m h) a
 Tells m h (read buffer) a = ReadTells m h buffer a
 Tells m h wipe a = Unit {0}
 
--- Whatever the calls were that led to the table t and the store v: with this call they lead to the table u and the store w; what stands after every
--- history stands then, and the answer is right.
-pub record Lasts (m : Meaning) (t : ℕ → Table) (v : View) (c : Call) (a : Answer) (u : ℕ → Table) (w : View) : Type 0 where
+-- Whatever the calls were that led to the table t and the state s, from a store in whatever state g: with this call they lead to the table u and the state r; what
+-- stands after every history stands then, and the answer is right.
+pub record Lasts (b : Behaviour) (m : Meaning) (t : ℕ → Table) (s : b.State) (c : Call) (a : Answer) (u : ℕ → Table) (r : b.State) : Type 0 where
   pub lost : ℕ → ℕ
-  pub history : (h : List (Call × Answer)) (j : ℕ) → History m h (t j) v → History m ((c, a) ∷ h) (u (lost j)) w
-  pub stands : (h : List (Call × Answer)) (j : ℕ) → History m h (t j) v → Stands m (u (lost j)) w
-  pub tells : (h : List (Call × Answer)) (j : ℕ) → History m h (t j) v → Tells m h c a
+  pub history : (g : b.State) (h : List (Call × Answer)) (j : ℕ) → History b m g h (t j) s → History b m g ((c, a) ∷ h) (u (lost j)) r
+  pub stands : (g : b.State) (h : List (Call × Answer)) (j : ℕ) → History b m g h (t j) s → Stands m (u (lost j)) (b.view r)
+  pub tells : (g : b.State) (h : List (Call × Answer)) (j : ℕ) → History b m g h (t j) s → Tells m h c a

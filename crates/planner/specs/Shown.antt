@@ -1,10 +1,9 @@
 -- What a table's fields say, and what the code's results say as answers.
 use Rattle.std.specs.Prelude.{◌≡◌, ℕ, List, [], take, Ok, Err, vec_items, Result}
 use Rattle.rows.specs.declared.bank.Bank as bank
-use Rattle.rows.specs.Rows.{RowData, Meaning}
+use Rattle.rows.specs.Rows.{RowData}
 use Rattle.rows.specs.Views.{rows_of}
 use Rattle.stores.specs.declared.store.Store as store
-use Rattle.stores.specs.Stores.{View}
 use Rattle.search.specs.Calls as calls
 use Rattle.search.specs.Calls.{Call, Answer, result}
 use Rattle.search.specs.Histories.{History}
@@ -25,9 +24,9 @@ module _ {B S : Type 0} {b : bank.Ghosts B} {s : store.Ghosts S} where
   abbrev pub model : Table B S b s → ℕ → calls.Table
   model t lost = table_of (vec_items t.voices) (rows_in t) t.search lost
 
-  -- its store, where `view` says what a store holds
-  abbrev pub store_in : (S → View) → Table B S b s → View
-  store_in view t = view t.store
+  -- the state that its store is in
+  abbrev pub store_in : Table B S b s → s.behaviour.State
+  store_in t = s.state t.store
 
   -- the values that it has found
   abbrev pub found_in : Table B S b s → List ℕ
@@ -36,16 +35,16 @@ module _ {B S : Type 0} {b : bank.Ghosts B} {s : store.Ghosts S} where
   -- ---- a call takes the table t with its store to the table u with its store
 
   -- by what the call is to do
-  abbrev pub CallDone : Meaning → (S → View) → Table B S b s → Call → Answer → Table B S b s → Type 0
-  CallDone m view t c a u = Done m (model t) (store_in view t) c a (model u) (store_in view u)
+  abbrev pub CallDone : Table B S b s → Call → Answer → Table B S b s → Type 0
+  CallDone t c a u = Done s.behaviour b.meaning (model t) (store_in t) c a (model u) (store_in u)
 
   -- and by what lasts over whole histories of calls
-  abbrev pub CallLasts : Meaning → (S → View) → Table B S b s → Call → Answer → Table B S b s → Type 0
-  CallLasts m view t c a u = Lasts m (model t) (store_in view t) c a (model u) (store_in view u)
+  abbrev pub CallLasts : Table B S b s → Call → Answer → Table B S b s → Type 0
+  CallLasts t c a u = Lasts s.behaviour b.meaning (model t) (store_in t) c a (model u) (store_in u)
 
-  -- what Make gives: a table with which a history begins
-  abbrev pub Begins : Meaning → (S → View) → Table B S b s → Type 0
-  Begins m view t = History m [] (model t 0) (store_in view t)
+  -- what Make gives over a store in this state: a table with which a history begins
+  abbrev pub Begins : s.behaviour.State → Table B S b s → Type 0
+  Begins g t = History s.behaviour b.meaning g [] (model t 0) (store_in t)
 
 -- ---- answers
 

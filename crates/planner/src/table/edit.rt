@@ -15,8 +15,8 @@ use stores::store::Store;
 impl<B: Bank, S: Store> Table<B, S> {
     // One voice more, with this opening set. The store is emptied, and the search begins again.
     pub fn declare(&mut self, set: ValueSet) -> Result<(), Refusal>
-        ensures does { CallDone B.Bank.meaning S.Store.view self.old (Call.declare set) (done_answer result) self.new }
-        ensures lasts { CallLasts B.Bank.meaning S.Store.view self.old (Call.declare set) (done_answer result) self.new }
+        ensures does { CallDone self.old (Call.declare set) (done_answer result) self.new }
+        ensures lasts { CallLasts self.old (Call.declare set) (done_answer result) self.new }
         ensures declined { OnErr result (self.new.store ≡ self.old.store) }
     {
         if set == 0 {
@@ -43,8 +43,8 @@ impl<B: Bank, S: Store> Table<B, S> {
 
     // One row more, from its bytes. The store is emptied, and the search begins again.
     pub fn post(&mut self, bytes: &[u8]) -> Result<(), Refusal>
-        ensures does { CallDone B.Bank.meaning S.Store.view self.old (Call.post bytes.now) (done_answer result) self.new }
-        ensures lasts { CallLasts B.Bank.meaning S.Store.view self.old (Call.post bytes.now) (done_answer result) self.new }
+        ensures does { CallDone self.old (Call.post bytes.now) (done_answer result) self.new }
+        ensures lasts { CallLasts self.old (Call.post bytes.now) (done_answer result) self.new }
         ensures declined { OnErr result (self.new.store ≡ self.old.store) }
     {
         let voices = self.voices.len();
@@ -61,8 +61,8 @@ impl<B: Bank, S: Store> Table<B, S> {
 
     // No voices and no rows. The store is emptied.
     pub fn wipe(&mut self)
-        ensures does { CallDone B.Bank.meaning S.Store.view self.old Call.wipe Answer.done self.new }
-        ensures lasts { CallLasts B.Bank.meaning S.Store.view self.old Call.wipe Answer.done self.new }
+        ensures does { CallDone self.old Call.wipe Answer.done self.new }
+        ensures lasts { CallLasts self.old Call.wipe Answer.done self.new }
     {
         self.voices.clear();
         self.posted = 0;

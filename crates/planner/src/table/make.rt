@@ -1,7 +1,6 @@
 // A table made, with all its memory.
 ghost use Rattle.std.specs.Prelude.{◌≡◌, IfOk, vec_len};
-ghost use Rattle.stores.specs.Stores.{Emptied};
-ghost use Rattle.planner.specs.Shown.{Begins, store_in};
+ghost use Rattle.planner.specs.Shown.{Begins};
 
 use crate::table::{MOST_ROWS, MOST_VOICES, Table};
 use engine::state::Search;
@@ -25,8 +24,7 @@ fn make_rows(heap: Global) -> Result<Vec<Row>, AllocError>
 impl<B: Bank, S: Store + Drop> Table<B, S> {
     // A table with no voices and no rows, over the store, which is emptied.
     pub fn make(heap: Global, store: S) -> Result<Table<B, S>, AllocError>
-        ensures begins { IfOk result (λ t. Begins B.Bank.meaning S.Store.view t) }
-        ensures store { IfOk result (λ t. Emptied (S.Store.view store) (store_in S.Store.view t)) }
+        ensures { IfOk result (λ t. Begins (S.Store.state store) t) }
     {
         let voices = Vec::with_capacity(heap, MOST_VOICES)?;
         let rows = make_rows(heap)?;

@@ -12,8 +12,8 @@ use stores::store::Store;
 impl<B: Bank, S: Store> Table<B, S> {
     // Writes the found values at the front of `out`, and answers how many; bytes beyond them stay.
     pub fn read(&self, out: &mut [u8]) -> Result<usize, Refusal>
-        ensures does { CallDone B.Bank.meaning S.Store.view self.now (Call.read out.old) (read_answer result out.new) self.now }
-        ensures lasts { CallLasts B.Bank.meaning S.Store.view self.now (Call.read out.old) (read_answer result out.new) self.now }
+        ensures does { CallDone self.now (Call.read out.old) (read_answer result out.new) self.now }
+        ensures lasts { CallLasts self.now (Call.read out.old) (read_answer result out.new) self.now }
         ensures buffer { LeftAlone result out.old out.new }
     {
         match self.search.outcome() {

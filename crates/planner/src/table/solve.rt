@@ -17,8 +17,8 @@ const MOST_OPENED: u64 = 1_000_000_000_000;
 impl<B: Bank, S: Store> Table<B, S> {
     // Opens nodes until the search is over, and at most `budget` of them. Found values are read by `read`.
     pub fn solve(&mut self, budget: u64) -> Result<Outcome, Refusal>
-        ensures does { CallDone B.Bank.meaning S.Store.view self.old (Call.solve budget) (solve_answer result (found_in self.new)) self.new }
-        ensures lasts { CallLasts B.Bank.meaning S.Store.view self.old (Call.solve budget) (solve_answer result (found_in self.new)) self.new }
+        ensures does { CallDone self.old (Call.solve budget) (solve_answer result (found_in self.new)) self.new }
+        ensures lasts { CallLasts self.old (Call.solve budget) (solve_answer result (found_in self.new)) self.new }
         ensures declined { OnErr result (self.new.store ≡ self.old.store) }
     {
         if budget == 0 || budget > MOST_BUDGET {

@@ -37,7 +37,7 @@ pub returns-in_err-accept_bytes : goal.returns-in_err-accept_bytes
 returns-in_err-accept_bytes g c =
     let m = g.B.Bank.meaning in
     let t = c.args.self.now in
-    let v = store_in g.S.Store.view t in
+    let v = store_in t in
     let bs = c.args.bytes.now in
     let f = c.in_err-accept_bytes.field-0.0 in
     let rows = rows_of (take t.posted (set t.rows.items t.posted c.accept_bytes.new.row)) in
@@ -47,15 +47,15 @@ returns-in_err-accept_bytes g c =
     let p = err_from_is_err_and c.from_residual.result c.from_residual.ensures.1 in
     let a : done_answer c.from_residual.result ≡ Answer.refused (row_number_of f) =
     ap (λ (x : Result (Unit {0}) Refusal). done_answer x) p.1 ∙ ap (λ (x : Refusal). Answer.refused (refusal_number x)) p.2 in
-    let d = declines_kept m (vec_items t.voices) (rows_in t) rows t.search v (post bs) (row_number_of f) (done_answer c.from_residual.result)
+    let d = declines_kept g.S.Store.behaviour m (vec_items t.voices) (rows_in t) rows t.search v (post bs) (row_number_of f) (done_answer c.from_residual.result)
     (rows_kept t.rows.items t.posted c.accept_bytes.new.row) a (λ j. bytes_decline m (model t j) bs f e) in
-    record { does = d; lasts = lasts_by m g.met.B.Bank.lawful (model t) v (post bs) (done_answer c.from_residual.result) (table_of (vec_items t.voices) rows t.search) v b d; declined = on_err c.from_residual.result refl }
+    record { does = d; lasts = lasts_by g.S.Store.behaviour m g.met.B.Bank.lawful (model t) v (post bs) (done_answer c.from_residual.result) (table_of (vec_items t.voices) rows t.search) v b d; declined = on_err c.from_residual.result refl }
 
 pub returns-then-not-has_room : goal.returns-then-not-has_room
 returns-then-not-has_room g c =
     let m = g.B.Bank.meaning in
     let t = c.args.self.now in
-    let v = store_in g.S.Store.view t in
+    let v = store_in t in
     let bs = c.args.bytes.now in
     let rows = rows_of (take t.posted (set t.rows.items t.posted c.accept_bytes.new.row)) in
     let kept = rows_kept t.rows.items t.posted c.accept_bytes.new.row in
@@ -63,9 +63,9 @@ returns-then-not-has_room g c =
     let n : c.len-voices.result ≡ length (vec_items t.voices) = omega (arith, c.len-voices.ensures, t.voices.ok.0) in
     let e : Ok c.in_ok-accept_bytes.field-0 ≡ row_verdict m bs (length (vec_items t.voices)) = c.in_ok-accept_bytes.ensures.value ∙ ap (λ (k : ℕ). row_verdict m bs k) n in
     let full = full_by (rows_in t) rows (length bs) kept c.if-not-has_room.ensures in
-    let d = declines_kept m (vec_items t.voices) (rows_in t) rows t.search v (post bs) 12 (Answer.refused 12) kept refl
+    let d = declines_kept g.S.Store.behaviour m (vec_items t.voices) (rows_in t) rows t.search v (post bs) 12 (Answer.refused 12) kept refl
     (λ j. rows_full m (model t j) bs c.in_ok-accept_bytes.field-0 e full) in
-    record { does = d; lasts = lasts_by m g.met.B.Bank.lawful (model t) v (post bs) (Answer.refused 12) (table_of (vec_items t.voices) rows t.search) v b d; declined = refl }
+    record { does = d; lasts = lasts_by g.S.Store.behaviour m g.met.B.Bank.lawful (model t) v (post bs) (Answer.refused 12) (table_of (vec_items t.voices) rows t.search) v b d; declined = refl }
 
 pub invariant_of-self-2 : goal.invariant_of-self-2
 invariant_of-self-2 g c =
@@ -98,8 +98,8 @@ returns g c =
     let m = g.B.Bank.meaning in
     let t = c.args.self.now in
     let s = c.restart.new.self in
-    let v = store_in g.S.Store.view t in
-    let w = g.S.Store.view c.clear.new.self in
+    let v = store_in t in
+    let w = g.S.Store.state c.clear.new.self in
     let bs = c.args.bytes.now in
     let r = c.accept_bytes.new.row in
     let before = rows_of (take t.posted (set t.rows.items t.posted r)) in
@@ -112,6 +112,6 @@ returns g c =
     let l = laid_out m bs (length (vec_items t.voices)) c.in_ok-accept_bytes.field-0 e in
     let pushed = rows_pushed m t.rows.items t.posted r bs (row_of c.index_mut.result.now) k l c.in_ok-accept_bytes.ensures.after in
     let room = open_by (rows_in t) before (length bs) kept c.if-not-has_room.ensures in
-    let d = posts_by m (vec_items t.voices) (rows_in t) rows t.search s v w bs (voice_count t.search) pushed c.restart.ensures
+    let d = posts_by g.S.Store.behaviour m (vec_items t.voices) (rows_in t) rows t.search s v w bs (voice_count t.search) pushed c.restart.ensures
     (λ j. row_fits m (model t j) bs c.in_ok-accept_bytes.field-0 e room) c.clear.ensures in
-    record { does = d; lasts = lasts_by m g.met.B.Bank.lawful (model t) v (post bs) Answer.done (table_of (vec_items t.voices) rows s) w b d; declined = tt }
+    record { does = d; lasts = lasts_by g.S.Store.behaviour m g.met.B.Bank.lawful (model t) v (post bs) Answer.done (table_of (vec_items t.voices) rows s) w b d; declined = tt }

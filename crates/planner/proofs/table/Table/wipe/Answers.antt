@@ -11,8 +11,8 @@ returns g c =
     let m = g.B.Bank.meaning in
     let t = c.args.self.now in
     let s = c.clear-2.new.self in
-    let v = store_in g.S.Store.view t in
-    let w = g.S.Store.view c.clear-3.new.self in
+    let v = store_in t in
+    let w = g.S.Store.state c.clear-3.new.self in
     let voices = vec_items c.clear.new.self in
-    let d = wipes_by m (model t) voices s v w 0 c.clear.ensures.items c.clear-2.ensures c.clear-3.ensures in
-    record { does = d; lasts = lasts_by m g.met.B.Bank.lawful (model t) v wipe Answer.done (table_of voices [] s) w tt d }
+    let d = wipes_by g.S.Store.behaviour m (model t) voices s v w 0 c.clear.ensures.items c.clear-2.ensures c.clear-3.ensures in
+    record { does = d; lasts = lasts_by g.S.Store.behaviour m g.met.B.Bank.lawful (model t) v wipe Answer.done (table_of voices [] s) w tt d }
