@@ -1,59 +1,90 @@
 -- The law of sheets, and what a Load comes to after any calls.
-use Rattle.std.proofs.Common.{true, ◌≡◌, ℕ, List, [], ◌∷◌, sym, refl, ap, ◌∙◌, subst, arith}
+use Rattle.std.proofs.Common.{true, false, is_err, Result, ◌≡◌, ℕ, List, [], ◌∷◌, sym, refl, ap, ◌∙◌, subst, subst₂, arith}
 use Rattle.rows.specs.Rows.{Meaning}
 use Rattle.rows.specs.Laws.{Laws}
 use Rattle.rows.specs.Bytes.{Bytes}
-use Rattle.stores.specs.Stores.{View, IsEmpty}
+use Rattle.stores.specs.Behaviours.{Behaviour}
 use Rattle.search.specs.Calls.{Table, empty, begun, Call, Answer, Does}
 use Rattle.search.specs.Calls.Call.{wipe}
 use Rattle.search.specs.Calls.Answer.{done}
 use Rattle.search.specs.Histories.{History}
-use Rattle.search.specs.Results.{Limited}
-use Rattle.search.proofs.HistoryFacts.{fit, search_stands}
-use Rattle.search.proofs.LimitFacts.{limits_stand}
+use Rattle.search.specs.Results.{Limited, Stands}
+use Rattle.search.proofs.AnyStore.{history_any}
+use Rattle.search.proofs.HistoryFacts.{fit}
+use Rattle.search.proofs.OverEvery.{search_stands, limits_stand}
+use Rattle.sheets.specs.declared.fault.SheetFault.{SheetFault}
 use Rattle.sheets.specs.Sheets.{sheet}
 use Rattle.sheets.specs.Reading.{Outcome, read_sheet, table_after}
 use Rattle.sheets.specs.Reading.Outcome.{accepted, refused}
 use Rattle.sheets.specs.Laws.{SheetsStand, loaded_after}
-use Rattle.sheets.specs.Loading.{LoadLeaves, LoadLasts, LoadBack}
-use Rattle.sheets.proofs.Told.{Told, told, holdable}
+use Rattle.sheets.specs.Loading.{load_answer, outcome_answer, Emptyings, Cleared, LoadLeaves, LoadHistory, LoadLasts, LoadBack, RecordsRead}
+use Rattle.sheets.proofs.Told.{Told, told}
 use Rattle.sheets.proofs.Saved.{saved_loads}
 
--- a store that holds nothing
-nothing : View
-nothing = record { held = []; space = 0; room = 0; steady = true }
-
-holds_nothing : IsEmpty nothing
-unfolding nothing
-holds_nothing = record { none = refl; whole = λ _. refl }
-
-told_first : (m : Meaning) → Laws m → (bs : List ℕ) → Bytes bs → Told m bs [] nothing (read_sheet m bs)
-unfolding nothing
-told_first m L bs b = told m L bs b [] nothing holds_nothing (History.made nothing holds_nothing)
-
 pub sheets_stand : (m : Meaning) → Laws m → SheetsStand m
-unfolding nothing
 sheets_stand m L = record {
   saved_loads = saved_loads m L;
-  loaded_saves = λ bs b voices rows e. let t = subst (Told m bs [] nothing) e (told_first m L bs b) in (holdable m L bs [] nothing holds_nothing t.0, t.1);
-  first_fault = λ bs b number place layer e. subst (Told m bs [] nothing) e (told_first m L bs b);
+  loaded_saves = λ bs b voices rows e. subst (Told m L bs) e (told m L bs b);
+  first_fault = λ bs b number place layer e. subst (Told m L bs) e (told m L bs b);
 }
 
 -- ---- after any calls
 
-told_history : (m : Meaning) (bs : List ℕ) (h : List (Call × Answer)) (w : View) (o : Outcome) → Told m bs ((wipe, done) ∷ h) w o → History m ((wipe, done) ∷ h) empty w
-    → History m (loaded_after h o) (table_after o) w
-told_history m bs h w (accepted voices rows) t H = t.0
-told_history m bs h w (refused number place layer) t H = H
+-- emptied before, and then so often
+before_all : (b : Behaviour) {s t u : b.State} → b.empties s t → Emptyings b t u → Emptyings b s u
+before_all b {s} {t} e Emptyings.none = Emptyings.then s t Emptyings.none e
+before_all b {s} {t} e (Emptyings.then x y E f) = Emptyings.then x y (before_all b e E) f
 
-pub lasts : (m : Meaning) → Laws m → (bs : List ℕ) → Bytes bs → (t : ℕ → Table) (v : View) (u : Table) (w : View) → LoadLeaves (read_sheet m bs) v u w → LoadLasts m t v (read_sheet m bs) u w
-lasts m L bs b t v u w leaves =
-    let o = read_sheet m bs in
-    let history : (h : List (Call × Answer)) (j : ℕ) → History m h (t j) v → History m (loaded_after h o) u w =
-    λ h j H.
-    let wiped : History m ((wipe, done) ∷ h) empty w = History.then h (t j) empty v w wipe done H tt (Does.wipes w leaves.store) in
-    subst (λ (x : Table). History m (loaded_after h o) x w) (sym leaves.table) (told_history m bs h w o (told m L bs b ((wipe, done) ∷ h) w leaves.store.empty wiped) wiped) in
-    record { history = history; stands = λ h j H. search_stands m L (loaded_after h o) u w (history h j H) }
+pub cleared : (b : Behaviour) {s t u : b.State} → b.empties s t → Emptyings b t u → Cleared b s u
+cleared b {s} {t} e Emptyings.none = record { before = s; emptyings = Emptyings.none; last = e }
+cleared b {s} {t} e (Emptyings.then x y E f) = record { before = x; emptyings = before_all b e E; last = f }
+
+-- From the table t and the state s: a Wipe, to the state w; then the records were read, to the table x and the state y; and where the sheet was declined, a Wipe more, to
+-- the table u and the state r.
+pub record Loaded (b : Behaviour) (m : Meaning) (bs : List ℕ) (s w : b.State) (x : Table) (y : b.State) (res : Result (Unit {0}) SheetFault) (u : Table) (r : b.State) : Type 0 where
+  pub wiped : b.empties s w
+  pub read : RecordsRead b m bs w x y (read_sheet m bs) res
+  pub emptied : Emptyings b w y
+  pub declined : is_err res ≡ true → (u ≡ empty) × b.empties y r
+  pub accepted : is_err res ≡ false → (u ≡ x) × (r ≡ y)
+
+module _ (b : Behaviour) (m : Meaning) (L : Laws m) (bs : List ℕ) {s w y r : b.State} {x u : Table} {res : Result (Unit {0}) SheetFault} (l : Loaded b m bs s w x y res u r) where
+  answer_by : {o : Outcome} (res' : Result (Unit {0}) SheetFault) → RecordsRead b m bs w x y o res' → load_answer res' ≡ outcome_answer o
+  answer_by res' (RecordsRead.ended voices rows e f) = refl
+  answer_by res' (RecordsRead.faulted cause place first e f) = refl
+
+  pub answers : load_answer res ≡ outcome_answer (read_sheet m bs)
+  answers = answer_by res l.read
+
+  leaves_by : {o : Outcome} (res' : Result (Unit {0}) SheetFault) → RecordsRead b m bs w x y o res' → (is_err res' ≡ true → (u ≡ empty) × b.empties y r)
+      → (is_err res' ≡ false → (u ≡ x) × (r ≡ y)) → LoadLeaves b o s u r
+  leaves_by res' (RecordsRead.ended voices rows e f) d a = record { table = (a refl).0 ∙ e; store = subst (Cleared b s) (sym (a refl).1) (cleared b l.wiped l.emptied) }
+  leaves_by res' (RecordsRead.faulted cause place first e f) d a =
+      record { table = (d refl).0; store = record { before = y; emptyings = before_all b l.wiped l.emptied; last = (d refl).1 } }
+
+  pub leaves : LoadLeaves b (read_sheet m bs) s u r
+  leaves = leaves_by res l.read l.declined l.accepted
+
+  history_by : {o : Outcome} (res' : Result (Unit {0}) SheetFault) → RecordsRead b m bs w x y o res' → (is_err res' ≡ true → (u ≡ empty) × b.empties y r)
+      → (is_err res' ≡ false → (u ≡ x) × (r ≡ y)) → (t : Table) (g : b.State) (h : List (Call × Answer)) → History b m g h t s → LoadHistory b m g h bs o u r
+  history_by res' (RecordsRead.ended voices rows e f) d a t g h H =
+      let wiped : History b m g ((wipe, done) ∷ h) empty w = History.then h t empty s w wipe done H tt (Does.wipes w l.wiped) in
+      subst₂ (λ (z : Table) (q : b.State). History b m g (loaded_after h voices rows) z q) (sym ((a refl).0 ∙ e)) (sym (a refl).1) (f g ((wipe, done) ∷ h) wiped)
+  history_by res' (RecordsRead.faulted cause place first e f) d a t g h H =
+      let wiped : History b m g ((wipe, done) ∷ h) empty w = History.then h t empty s w wipe done H tt (Does.wipes w l.wiped) in
+      let calls = loaded_after h first.voices first.rows in
+      (first, subst (λ (z : Table). History b m g ((wipe, done) ∷ loaded_after h first.voices first.rows) z r) (sym (d refl).0)
+      (History.then calls (begun first.voices first.rows) empty y r wipe done (f g ((wipe, done) ∷ h) wiped) tt (Does.wipes r (d refl).1)))
+
+  stands_by : (o : Outcome) (g : b.State) (h : List (Call × Answer)) → LoadHistory b m g h bs o u r → Stands m u (b.view r)
+  stands_by (accepted voices rows) g h H = search_stands b m L g (loaded_after h voices rows) u r H
+  stands_by (refused number place layer) g h H = search_stands b m L g ((wipe, done) ∷ loaded_after h H.0.voices H.0.rows) u r H.1
+
+  pub lasts : (t : ℕ → Table) → LoadLasts b m t s bs u r
+  lasts t =
+      let history : (g : b.State) (h : List (Call × Answer)) (j : ℕ) → History b m g h (t j) s → LoadHistory b m g h bs (read_sheet m bs) u r =
+      λ g h j H. history_by res l.read l.declined l.accepted (t j) g h H in
+      record { history = history; stands = λ g h j H. stands_by (read_sheet m bs) g h (history g h j H) }
 
 -- ---- loaded and saved, saved and loaded
 
@@ -67,5 +98,7 @@ loads_back m L bs b u f = back m L bs b u (read_sheet m bs) refl f
 begun_limited : (m : Meaning) (t : Table) → Limited m t → Limited m (begun t.voices t.rows)
 begun_limited m t l = record { voices = l.voices; sets = l.sets; rows = l.rows; bytes = l.bytes; laid_out = l.laid_out; opened = omega arith }
 
-pub saves_again : (m : Meaning) → Laws m → (t : Table) (v : View) (h : List (Call × Answer)) → History m h t v → read_sheet m (sheet t.voices t.rows) ≡ accepted t.voices t.rows
-saves_again m L t v h H = saved_loads m L t.voices t.rows (record { limited = begun_limited m t (limits_stand m h t v H); all_accepted = (fit m L H).okay })
+pub saves_again : (b : Behaviour) (m : Meaning) → Laws m → (t : Table) (v g : b.State) (h : List (Call × Answer)) → History b m g h t v
+    → read_sheet m (sheet t.voices t.rows) ≡ accepted t.voices t.rows
+saves_again b m L t v g h H =
+    saved_loads m L t.voices t.rows (record { limited = begun_limited m t (limits_stand b m g h t v H); all_accepted = (fit m L (history_any b m H)).okay })

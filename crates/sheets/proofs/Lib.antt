@@ -1,7 +1,7 @@
 pub mod Numbers
 pub mod Items
-pub mod Steps
 pub mod Told
+pub mod Steps
 pub mod Saved
 pub mod LawsHold
 pub mod Pieces

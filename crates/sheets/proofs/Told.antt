@@ -1,20 +1,23 @@
 -- A sheet read to its end or to its first fault: the calls that it stands for, and its bytes.
-use Rattle.std.proofs.Common.{◌≡◌, ℕ, zero, suc, ◌+◌, ◌^◌, ◌<◌, ◌≤◌, List, [], ◌∷◌, ◌++◌, length, take, drop, sym, refl, ap, ◌∙◌, subst, arith}
+use Rattle.std.proofs.Common.{◌≡◌, ℕ, zero, suc, ◌+◌, ◌^◌, ◌<◌, ◌≤◌, ltb, get_or, List, [], ◌∷◌, ◌++◌, length, take, drop, sym, refl, ap, ◌∙◌, subst, arith}
 use Rattle.std.proofs.lemmas.List.{append-nil, append_assoc, length-append, length-take, length-take-le, length-drop, take-append-drop, get_or-take, get_or-drop}
-use Rattle.std.proofs.lemmas.Bool.{not-false}
+use Rattle.std.proofs.lemmas.Bool.{and_parts, not-false, ltb-true}
 use Rattle.rows.specs.Rows.{RowData, Meaning}
 use Rattle.rows.specs.Laws.{Laws}
 use Rattle.rows.specs.Bytes.{Bytes, head_length, lettered, counted, right_length, marked, Layout, LaidOut, decode, encode}
 use Rattle.rows.proofs.Layouts.{bytes_both_ways}
 use Rattle.writing.specs.WrittenRows.{written_row}
 use Rattle.writing.proofs.RowBytes.{row_same}
-use Rattle.stores.specs.Stores.{View, IsEmpty}
+use Rattle.stores.specs.Behaviours.{Behaviour}
+use Rattle.stores.specs.Bare.{bare}
 use Rattle.search.specs.Calls.{Table, begun, empty, Call, Answer, Judgement, reasons, judged, Does}
 use Rattle.search.specs.Calls.Call.{declare, post}
 use Rattle.search.specs.Calls.Answer.{done}
 use Rattle.search.specs.Histories.{History}
+use Rattle.search.proofs.AnyStore.{history_any}
 use Rattle.search.proofs.HistoryFacts.{none_fits, fit}
-use Rattle.search.proofs.LimitFacts.{limits_stand}
+use Rattle.search.proofs.OverEvery.{limits_stand}
+use Rattle.sheets.specs.declared.fault.Layer.{Layer}
 use Rattle.sheets.specs.Sheets.{low_first, number_in, voice_record, voice_records, row_records, records, sheet}
 use Rattle.sheets.specs.Reading.{Item, item_at, Outcome, read_on, read_from, read_sheet}
 use Rattle.sheets.specs.Reading.Item.{last, voice, row, fault}
@@ -22,7 +25,7 @@ use Rattle.sheets.specs.Reading.Outcome.{accepted, refused}
 use Rattle.sheets.specs.Laws.{Holdable, FirstFault, declared_after, posted_after}
 use Rattle.sheets.proofs.Numbers.{low_first_of_number, number_fits}
 use Rattle.sheets.proofs.Items.{VoiceHere, RowHere, voice_here, row_here, last_here}
-use Rattle.sheets.proofs.Steps.{still_empty, some_row}
+use Rattle.sheets.specs.Loading.{Fills}
 
 -- ---- one record more
 
@@ -94,86 +97,106 @@ row_bytes m voices rows bs r h b =
     let back = (bytes_both_ways m).1 r f (row_layout m (begun voices rows) r h.passes) in
     (f, back.1, ap (λ (x : List ℕ). x ++ drop (length r) bs) h.front ∙ take-append-drop (length r) bs, back.0)
 
+-- a row that passes has a byte
+pub some_row : (m : Meaning) (t : Table) (r : List ℕ) → judged m t (post r) ≡ Judgement.passes → 0 < length r
+some_row m t r j = ltb-true 0 (length r) (and_parts (ltb 0 (length r)) (m.known (get_or r 0 0)) (not-false (lettered m r) (none_fits (reasons m t (post r)) j).0)).0
+
 -- ---- reading on
 
--- what reading the whole comes to, after the calls h: these calls and the same bytes, or the first fault
-abbrev pub Told : Meaning → List ℕ → List (Call × Answer) → View → Outcome → Type 0
-Told m whole h w (accepted voices rows) = History m (posted_after (declared_after h voices) rows) (begun voices rows) w × (sheet voices rows ≡ whole)
-Told m whole h w (refused number place layer) = FirstFault m whole number place layer
+-- the records of these voices and rows are read, and these bytes are left; from the state w the store has come to x
+pub record ReadSo (b : Behaviour) (m : Meaning) (whole : List ℕ) (w : b.State) (at : ℕ) (voices : List ℕ) (rows : List RowData) (bs : List ℕ) (x : b.State) : Type 0 where
+  pub placed : at ≡ length (records voices rows)
+  pub whole_is : records voices rows ++ bs ≡ whole
+  pub bytes : Bytes bs
+  pub fills : Fills b m w voices rows x
 
--- the records of these voices and rows are read, and these bytes are left
-record ReadSo (m : Meaning) (whole : List ℕ) (h : List (Call × Answer)) (w : View) (at : ℕ) (voices : List ℕ) (rows : List RowData) (bs : List ℕ) : Type 0 where
-  placed : at ≡ length (records voices rows)
-  whole_is : records voices rows ++ bs ≡ whole
-  bytes : Bytes bs
-  history : History m (posted_after (declared_after h voices) rows) (begun voices rows) w
+module _ (b : Behaviour) (m : Meaning) (whole : List ℕ) (w : b.State) where
+  pub none_read : Bytes whole → ReadSo b m whole w 0 [] [] whole w
+  none_read f = record { placed = refl; whole_is = refl; bytes = f; fills = λ g h H. H }
 
-module _ (m : Meaning) (L : Laws m) (whole : List ℕ) (h : List (Call × Answer)) (w : View) (e : IsEmpty w) where
-  pub holdable : {k : List (Call × Answer)} {voices : List ℕ} {rows : List RowData} → History m k (begun voices rows) w → Holdable m voices rows
-  holdable {k} {voices} {rows} H = record { limited = limits_stand m k (begun voices rows) w H; all_accepted = (fit m L H).okay }
-
-  one_voice : (at : ℕ) (voices : List ℕ) (rows : List RowData) (bs : List ℕ) (s : ℕ) → ReadSo m whole h w at voices rows bs → VoiceHere m voices rows bs s
-      → ReadSo m whole h w (at + 9) (voices ++ (s ∷ [])) rows (drop 9 bs)
-  one_voice at voices rows bs s R V =
+  pub one_voice : (at : ℕ) (voices : List ℕ) (rows : List RowData) (bs : List ℕ) (x y : b.State) (s : ℕ) → ReadSo b m whole w at voices rows bs x → VoiceHere m voices rows bs s
+      → b.empties x y → ReadSo b m whole w (at + 9) (voices ++ (s ∷ [])) rows (drop 9 bs) y
+  one_voice at voices rows bs x y s R V e =
       let more = records_voice voices rows s V.no_rows in
-      let before = posted_after (declared_after h voices) rows in
-      let same : (declare s, done) ∷ before ≡ posted_after (declared_after h (voices ++ (s ∷ []))) rows =
-      subst (λ (x : List RowData). (declare s, done) ∷ posted_after (declared_after h voices) x ≡ posted_after (declared_after h (voices ++ (s ∷ []))) x) (sym V.no_rows) (sym (declared_push h voices s)) in
       record {
         placed = omega (arith, R.placed, ap length more, length-append (records voices rows) (voice_record s));
-        whole_is = ap (λ (x : List ℕ). x ++ drop 9 bs) more ∙ append_assoc (records voices rows) (voice_record s) (drop 9 bs)
-            ∙ ap (λ (x : List ℕ). records voices rows ++ x) (voice_bytes m voices rows bs s V R.bytes) ∙ R.whole_is;
+        whole_is = ap (λ (z : List ℕ). z ++ drop 9 bs) more ∙ append_assoc (records voices rows) (voice_record s) (drop 9 bs)
+            ∙ ap (λ (z : List ℕ). records voices rows ++ z) (voice_bytes m voices rows bs s V R.bytes) ∙ R.whole_is;
         bytes = bytes_from 9 bs R.bytes;
-        history = subst (λ (x : List (Call × Answer)). History m x (begun (voices ++ (s ∷ [])) rows) w) same
-            (History.then before (begun voices rows) (begun (voices ++ (s ∷ [])) rows) w w (declare s) done R.history (voice_fits_word m voices rows bs s V R.bytes) (Does.declares s w V.passes (still_empty w e)));
+        fills = λ g h H.
+            let before = posted_after (declared_after h voices) rows in
+            let same : (declare s, done) ∷ before ≡ posted_after (declared_after h (voices ++ (s ∷ []))) rows =
+            subst (λ (z : List RowData). (declare s, done) ∷ posted_after (declared_after h voices) z ≡ posted_after (declared_after h (voices ++ (s ∷ []))) z) (sym V.no_rows) (sym (declared_push h voices s)) in
+            subst (λ (z : List (Call × Answer)). History b m g z (begun (voices ++ (s ∷ [])) rows) y) same
+            (History.then before (begun voices rows) (begun (voices ++ (s ∷ [])) rows) x y (declare s) done (R.fills g h H) (voice_fits_word m voices rows bs s V R.bytes) (Does.declares s y V.passes e));
       }
 
-  one_row : (at : ℕ) (voices : List ℕ) (rows : List RowData) (bs r : List ℕ) → ReadSo m whole h w at voices rows bs → RowHere m voices rows bs r
-      → ReadSo m whole h w (at + length r) voices (rows ++ (decode m r ∷ [])) (drop (length r) bs)
-  one_row at voices rows bs r R V =
+  pub one_row : (at : ℕ) (voices : List ℕ) (rows : List RowData) (bs r : List ℕ) (x y : b.State) → ReadSo b m whole w at voices rows bs x → RowHere m voices rows bs r
+      → b.empties x y → ReadSo b m whole w (at + length r) voices (rows ++ (decode m r ∷ [])) (drop (length r) bs) y
+  one_row at voices rows bs r x y R V e =
       let d = decode m r in
-      let b = row_bytes m voices rows bs r V R.bytes in
-      let more = records_row voices rows d ∙ ap (λ (x : List ℕ). records voices rows ++ x) (row_same m d b.3) in
-      let before = posted_after (declared_after h voices) rows in
-      let same : (post r, done) ∷ before ≡ posted_after (declared_after h voices) (rows ++ (d ∷ [])) =
-      ap (λ (x : List ℕ). (post x, done) ∷ before) (sym b.1) ∙ sym (posted_push (declared_after h voices) rows d) in
+      let f = row_bytes m voices rows bs r V R.bytes in
+      let more = records_row voices rows d ∙ ap (λ (z : List ℕ). records voices rows ++ z) (row_same m d f.3) in
       record {
-        placed = omega (arith, R.placed, ap length more, length-append (records voices rows) (encode d), ap length b.1);
-        whole_is = ap (λ (x : List ℕ). x ++ drop (length r) bs) more ∙ append_assoc (records voices rows) (encode d) (drop (length r) bs)
-            ∙ ap (λ (x : List ℕ). records voices rows ++ x) (ap (λ (x : List ℕ). x ++ drop (length r) bs) b.1 ∙ b.2) ∙ R.whole_is;
+        placed = omega (arith, R.placed, ap length more, length-append (records voices rows) (encode d), ap length f.1);
+        whole_is = ap (λ (z : List ℕ). z ++ drop (length r) bs) more ∙ append_assoc (records voices rows) (encode d) (drop (length r) bs)
+            ∙ ap (λ (z : List ℕ). records voices rows ++ z) (ap (λ (z : List ℕ). z ++ drop (length r) bs) f.1 ∙ f.2) ∙ R.whole_is;
         bytes = bytes_from (length r) bs R.bytes;
-        history = subst (λ (x : List (Call × Answer)). History m x (begun voices (rows ++ (d ∷ []))) w) same
-            (History.then before (begun voices rows) (begun voices (rows ++ (d ∷ []))) w w (post r) done R.history b.0 (Does.posts r w V.passes (still_empty w e)));
+        fills = λ g h H.
+            let before = posted_after (declared_after h voices) rows in
+            let same : (post r, done) ∷ before ≡ posted_after (declared_after h voices) (rows ++ (d ∷ [])) =
+            ap (λ (z : List ℕ). (post z, done) ∷ before) (sym f.1) ∙ sym (posted_push (declared_after h voices) rows d) in
+            subst (λ (z : List (Call × Answer)). History b m g z (begun voices (rows ++ (d ∷ []))) y) same
+            (History.then before (begun voices rows) (begun voices (rows ++ (d ∷ []))) x y (post r) done (R.fills g h H) f.0 (Does.posts r y V.passes e));
       }
 
-  told_on : (n at : ℕ) (voices : List ℕ) (rows : List RowData) (bs : List ℕ) → length bs < suc n → ReadSo m whole h w at voices rows bs
-      → ((at : ℕ) (voices : List ℕ) (rows : List RowData) (bs : List ℕ) → length bs < n → ReadSo m whole h w at voices rows bs → Told m whole h w (read_from m n at voices rows bs))
-      → (i : Item) → item_at m voices rows bs ≡ i → Told m whole h w (read_on m (read_from m n) at voices rows bs i)
-  told_on n at voices rows bs l R next last f =
-      (R.history, ap (λ (x : List ℕ). records voices rows ++ x) (sym (last_here m voices rows bs f)) ∙ R.whole_is)
-  told_on n at voices rows bs l R next (voice s) f =
-      let V = voice_here m voices rows bs s f in
-      next (at + 9) (voices ++ (s ∷ [])) rows (drop 9 bs) (omega (arith, l, V.long, length-drop 9 bs)) (one_voice at voices rows bs s R V)
-  told_on n at voices rows bs l R next (row r) f =
-      let V = row_here m voices rows bs r f in
-      next (at + length r) voices (rows ++ (decode m r ∷ [])) (drop (length r) bs)
-      (omega (arith, l, some_row m (begun voices rows) r V.passes, length-drop (length r) bs, ap length V.front, length-take (length r) bs)) (one_row at voices rows bs r R V)
-  told_on n at voices rows bs l R next (fault k o layer) f = record {
+-- ---- over the bare store, which has one state
+
+abbrev pub BareRead : Meaning → List ℕ → ℕ → List ℕ → List RowData → List ℕ → Type 0
+BareRead m whole at voices rows bs = ReadSo bare m whole tt at voices rows bs tt
+
+module _ (m : Meaning) (L : Laws m) (whole : List ℕ) where
+  pub holdable : {voices : List ℕ} {rows : List RowData} → Fills bare m tt voices rows tt → Holdable m voices rows
+  holdable {voices} {rows} f =
+      let H = f tt [] (History.made tt tt) in
+      record { limited = limits_stand bare m tt (posted_after (declared_after [] voices) rows) (begun voices rows) tt H; all_accepted = (fit m L (history_any bare m H)).okay }
+
+  -- the first fault
+  abbrev pub fault_at : (at : ℕ) (voices : List ℕ) (rows : List RowData) (bs : List ℕ) (k o : ℕ) (layer : Layer) → BareRead m whole at voices rows bs
+      → item_at m voices rows bs ≡ fault k o layer → FirstFault m whole k (at + o) layer
+  fault_at at voices rows bs k o layer R f = record {
     voices = voices;
     rows = rows;
     rest = bs;
     offset = o;
-    holdable = holdable R.history;
+    holdable = holdable R.fills;
     before = sym R.whole_is;
     here = f;
     placed = ap (λ (x : ℕ). x + o) R.placed;
   }
 
-  told_from : (n at : ℕ) (voices : List ℕ) (rows : List RowData) (bs : List ℕ) → length bs < n → ReadSo m whole h w at voices rows bs → Told m whole h w (read_from m n at voices rows bs)
+  -- what reading the whole comes to: voices and rows that a table can have, of the same bytes, or the first fault
+  abbrev pub Told : Outcome → Type 0
+  Told (accepted voices rows) = Holdable m voices rows × (sheet voices rows ≡ whole)
+  Told (refused number place layer) = FirstFault m whole number place layer
+
+  told_on : (n at : ℕ) (voices : List ℕ) (rows : List RowData) (bs : List ℕ) → length bs < suc n → BareRead m whole at voices rows bs
+      → ((at : ℕ) (voices : List ℕ) (rows : List RowData) (bs : List ℕ) → length bs < n → BareRead m whole at voices rows bs → Told (read_from m n at voices rows bs))
+      → (i : Item) → item_at m voices rows bs ≡ i → Told (read_on m (read_from m n) at voices rows bs i)
+  told_on n at voices rows bs l R next last f =
+      (holdable R.fills, ap (λ (x : List ℕ). records voices rows ++ x) (sym (last_here m voices rows bs f)) ∙ R.whole_is)
+  told_on n at voices rows bs l R next (voice s) f =
+      let V = voice_here m voices rows bs s f in
+      next (at + 9) (voices ++ (s ∷ [])) rows (drop 9 bs) (omega (arith, l, V.long, length-drop 9 bs)) (one_voice bare m whole tt at voices rows bs tt tt s R V tt)
+  told_on n at voices rows bs l R next (row r) f =
+      let V = row_here m voices rows bs r f in
+      next (at + length r) voices (rows ++ (decode m r ∷ [])) (drop (length r) bs)
+      (omega (arith, l, some_row m (begun voices rows) r V.passes, length-drop (length r) bs, ap length V.front, length-take (length r) bs)) (one_row bare m whole tt at voices rows bs r tt tt R V tt)
+  told_on n at voices rows bs l R next (fault k o layer) f = fault_at at voices rows bs k o layer R f
+
+  told_from : (n at : ℕ) (voices : List ℕ) (rows : List RowData) (bs : List ℕ) → length bs < n → BareRead m whole at voices rows bs → Told (read_from m n at voices rows bs)
   told_from zero at voices rows bs l R = absurd (omega (arith, l))
   told_from (suc n) at voices rows bs l R = told_on n at voices rows bs l R (told_from n) (item_at m voices rows bs) refl
 
--- a sheet read after the calls h, which led to an empty table
-pub told : (m : Meaning) → Laws m → (bs : List ℕ) → Bytes bs → (h : List (Call × Answer)) (w : View) → IsEmpty w → History m h empty w → Told m bs h w (read_sheet m bs)
-told m L bs b h w e H =
-    told_from m L bs h w e (suc (length bs)) 0 [] [] bs (omega arith) (record { placed = refl; whole_is = refl; bytes = b; history = H })
+  pub told : Bytes whole → Told (read_sheet m whole)
+  told f = told_from (suc (length whole)) 0 [] [] whole (omega arith) (none_read bare m whole tt f)

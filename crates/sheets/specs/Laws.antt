@@ -53,7 +53,6 @@ abbrev pub posted_after : List (Call × Answer) → List RowData → List (Call 
 posted_after h [] = h
 posted_after h (r ∷ rows) = posted_after ((post (encode r), done) ∷ h) rows
 
--- a Wipe, and then these; a declined Load is a Wipe
-abbrev pub loaded_after : List (Call × Answer) → Outcome → List (Call × Answer)
-loaded_after h (accepted voices rows) = posted_after (declared_after ((wipe, done) ∷ h) voices) rows
-loaded_after h (refused n place layer) = (wipe, done) ∷ h
+-- a Wipe, and then these
+abbrev pub loaded_after : List (Call × Answer) → List ℕ → List RowData → List (Call × Answer)
+loaded_after h voices rows = posted_after (declared_after ((wipe, done) ∷ h) voices) rows

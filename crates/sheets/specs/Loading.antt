@@ -2,18 +2,20 @@
 use Rattle.std.specs.Prelude.{◌≡◌, ℕ, List, [], ◌∷◌, ◌++◌, length, Some, None, Ok, Err, Option, Result}
 use Rattle.rows.specs.Rows.{RowData, Meaning}
 use Rattle.rows.specs.Bytes.{decode}
-use Rattle.stores.specs.Stores.{View, IsEmpty, Emptied}
-use Rattle.search.specs.Calls.{Table, Call, Answer, begun}
+use Rattle.stores.specs.Behaviours.{Behaviour}
+use Rattle.search.specs.Calls.{Table, Call, Answer, begun, empty}
+use Rattle.search.specs.Calls.Call.{wipe}
+use Rattle.search.specs.Calls.Answer.{done}
 use Rattle.search.specs.Histories.{History}
 use Rattle.search.specs.Results.{Stands}
 use Rattle.sheets.specs.declared.fault.Cause.{Cause}
 use Rattle.sheets.specs.declared.fault.Layer.{Layer}
 use Rattle.sheets.specs.declared.fault.SheetFault.{SheetFault}
 use Rattle.sheets.specs.Causes.{cause_number, cause_layer, cause_offset}
-use Rattle.sheets.specs.Reading.{Item, Outcome, table_after}
+use Rattle.sheets.specs.Reading.{Item, Outcome, read_sheet, table_after}
 use Rattle.sheets.specs.Reading.Item.{last, voice, row, fault}
 use Rattle.sheets.specs.Reading.Outcome.{accepted, refused}
-use Rattle.sheets.specs.Laws.{loaded_after}
+use Rattle.sheets.specs.Laws.{FirstFault, declared_after, posted_after, loaded_after}
 
 -- ---- answers
 
@@ -34,16 +36,33 @@ outcome_answer (refused number place layer) = declined number place layer
 
 -- ---- what a Load leaves
 
--- the table of the sheet's voices and rows, or an empty one, its search not begun, over the store v, emptied
-pub record LoadLeaves (o : Outcome) (v : View) (u : Table) (w : View) : Type 0 where
-  pub table : u ≡ table_after o
-  pub store : Emptied v w
+-- Empty, any number of times
+pub data Emptyings (b : Behaviour) (s : b.State) : b.State → Type 0 where
+  none : Emptyings b s s
+  then : (t u : b.State) → Emptyings b s t → b.empties t u → Emptyings b s u
 
--- Whatever the calls were that led to the table t and the store v: to the table u and the store w lead these and then a Wipe with the sheet's Declares
--- and Posts, all accepted, or after a declined Load the Wipe alone; and what stands after every history stands then.
-pub record LoadLasts (m : Meaning) (t : ℕ → Table) (v : View) (o : Outcome) (u : Table) (w : View) : Type 0 where
-  pub history : (h : List (Call × Answer)) (j : ℕ) → History m h (t j) v → History m (loaded_after h o) u w
-  pub stands : (h : List (Call × Answer)) (j : ℕ) → History m h (t j) v → Stands m u w
+-- the state that Empty leaves, once or more often
+pub record Cleared (b : Behaviour) (s t : b.State) : Type 0 where
+  pub before : b.State
+  pub emptyings : Emptyings b s before
+  pub last : b.empties before t
+
+-- the table of the sheet's voices and rows, or an empty one, its search not begun, over its store, emptied
+pub record LoadLeaves (b : Behaviour) (o : Outcome) (s : b.State) (u : Table) (r : b.State) : Type 0 where
+  pub table : u ≡ table_after o
+  pub store : Cleared b s r
+
+-- After the calls h, over a store that was in the state g when the table was made, a Load of these bytes that comes to this has led to the table u and the state r: by
+-- a Wipe and the sheet's Declares and Posts, all accepted; where it is declined, by those of the records before the first fault, and a Wipe more.
+abbrev pub LoadHistory : (b : Behaviour) (m : Meaning) (g : b.State) (h : List (Call × Answer)) (bytes : List ℕ) → Outcome → Table → b.State → Type 0
+LoadHistory b m g h bytes (accepted voices rows) u r = History b m g (loaded_after h voices rows) u r
+LoadHistory b m g h bytes (refused number place layer) u r =
+    (first : FirstFault m bytes number place layer) × History b m g ((wipe, done) ∷ loaded_after h first.voices first.rows) u r
+
+-- Whatever the calls were that led to the table t and the state s: so it is then; and what stands after every history stands.
+pub record LoadLasts (b : Behaviour) (m : Meaning) (t : ℕ → Table) (s : b.State) (bytes : List ℕ) (u : Table) (r : b.State) : Type 0 where
+  pub history : (g : b.State) (h : List (Call × Answer)) (j : ℕ) → History b m g h (t j) s → LoadHistory b m g h bytes (read_sheet m bytes) u r
+  pub stands : (g : b.State) (h : List (Call × Answer)) (j : ℕ) → History b m g h (t j) s → Stands m u (b.view r)
 
 -- `saved` is the sheet of the table then: where the bytes are accepted, it is these bytes
 abbrev pub LoadBack : Outcome → List ℕ → List ℕ → Type 0
@@ -76,24 +95,32 @@ item_table m voices rows (voice s) = begun (voices ++ (s ∷ [])) rows
 item_table m voices rows (row r) = begun voices (rows ++ (decode m r ∷ []))
 item_table m voices rows (fault number offset layer) = begun voices rows
 
--- a table whose search has not begun, over a store that holds nothing
-pub record Unsearched (t : Table) (v : View) : Type 0 where
-  pub begins : t ≡ begun t.voices t.rows
-  pub holds : IsEmpty v
+-- a table whose search has not begun
+abbrev pub Unsearched : Table → Type 0
+Unsearched t = t ≡ begun t.voices t.rows
+
+-- the store after a record: an accepted Declare or Post empties it
+abbrev pub ItemStored : (b : Behaviour) → Item → b.State → b.State → Type 0
+ItemStored b last s r = r ≡ s
+ItemStored b (voice x) s r = b.empties s r
+ItemStored b (row bs) s r = b.empties s r
+ItemStored b (fault number offset layer) s r = r ≡ s
 
 -- a record is read: the answer, and the table and the store then
-pub record ItemRead (m : Meaning) (t : Table) (v : View) (i : Item) (r : Result (Option ℕ) Cause) (u : Table) (w : View) : Type 0 where
-  pub step : step_of r ≡ item_step i
+pub record ItemRead (b : Behaviour) (m : Meaning) (t : Table) (s : b.State) (i : Item) (res : Result (Option ℕ) Cause) (u : Table) (r : b.State) : Type 0 where
+  pub step : step_of res ≡ item_step i
   pub table : u ≡ item_table m t.voices t.rows i
-  pub store : Emptied v w
+  pub store : ItemStored b i s r
 
--- where the sheet is accepted, the table has its voices and rows; where it is not, nothing is said, since a Wipe follows
-abbrev pub Filled : Outcome → Table → Type 0
-Filled (accepted voices rows) u = u ≡ begun voices rows
-Filled (refused number place layer) u = Unit {0}
+-- Whatever the calls were that led to an empty table and the state s: with a Declare for each of these voices and a Post for each of these rows, all accepted, they
+-- lead to a table with these, its search not begun, and the state r.
+abbrev pub Fills : (b : Behaviour) (m : Meaning) (s : b.State) (voices : List ℕ) (rows : List RowData) → b.State → Type 0
+Fills b m s voices rows r =
+    (g : b.State) (h : List (Call × Answer)) → History b m g h empty s → History b m g (posted_after (declared_after h voices) rows) (begun voices rows) r
 
 -- all records are read, up to the sheet's end or its first fault
-pub record RecordsRead (o : Outcome) (v : View) (r : Result Unit SheetFault) (u : Table) (w : View) : Type 0 where
-  pub answer : load_answer r ≡ outcome_answer o
-  pub table : Filled o u
-  pub store : Emptied v w
+pub data RecordsRead (b : Behaviour) (m : Meaning) (bytes : List ℕ) (s : b.State) (u : Table) (r : b.State) : Outcome → Result Unit SheetFault → Type 0 where
+  ended : (voices : List ℕ) (rows : List RowData) → u ≡ begun voices rows → Fills b m s voices rows r → RecordsRead b m bytes s u r (accepted voices rows) (Ok tt)
+  faulted : (cause : Cause) (place : ℕ) (first : FirstFault m bytes (cause_number cause) place (cause_layer cause)) → u ≡ begun first.voices first.rows
+      → Fills b m s first.voices first.rows r
+      → RecordsRead b m bytes s u r (refused (cause_number cause) place (cause_layer cause)) (Err (record { cause = cause; place = place }))

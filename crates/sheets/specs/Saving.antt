@@ -3,7 +3,7 @@ use Rattle.rows.specs.declared.bank.Bank as bank
 use Rattle.stores.specs.declared.store.Store as store
 use Rattle.std.specs.Prelude.{◌≡◌, ℕ, cond, List, ◌++◌, length, drop, Ok, Err, Result, nat_le}
 use Rattle.rows.specs.Rows.{Meaning}
-use Rattle.stores.specs.Stores.{View}
+use Rattle.stores.specs.Behaviours.{Behaviour}
 use Rattle.search.specs.Calls as calls
 use Rattle.search.specs.Calls.{Call, Answer}
 use Rattle.search.specs.Histories.{History}
@@ -20,9 +20,10 @@ module _ {B S : Type 0} {b : bank.Ghosts B} {s : store.Ghosts S} where
   abbrev pub sheet_of : Table B S b s → List ℕ
   sheet_of t = sheet (model t 0).voices (model t 0).rows
 
--- Whatever the calls were that led to the table t and the store v: its sheet is accepted by Load, and gives back exactly its voices and rows.
-abbrev pub LoadsAgain : Meaning → (ℕ → calls.Table) → View → Type 0
-LoadsAgain m t v = (h : List (Call × Answer)) (j : ℕ) → History m h (t j) v → read_sheet m (sheet (t 0).voices (t 0).rows) ≡ accepted (t 0).voices (t 0).rows
+-- Whatever the calls were that led to the table t and the state v: its sheet is accepted by Load, and gives back exactly its voices and rows.
+abbrev pub LoadsAgain : (b : Behaviour) → Meaning → (ℕ → calls.Table) → b.State → Type 0
+LoadsAgain b m t v =
+    (g : b.State) (h : List (Call × Answer)) (j : ℕ) → History b m g h (t j) v → read_sheet m (sheet (t 0).voices (t 0).rows) ≡ accepted (t 0).voices (t 0).rows
 
 -- Bytes written at the front of a buffer: how many, or that it is too short; and the buffer then, as it was beyond them, or all of it as it was.
 abbrev pub written_answer : List ℕ → List ℕ → Result ℕ Refusal

@@ -1,10 +1,9 @@
 // Sheets loaded.
 ghost use Rattle.std.specs.Prelude.{◌≡◌, true, false, is_err};
-ghost use Rattle.stores.specs.Stores.{IsEmpty};
 ghost use Rattle.search.specs.Calls.{empty, Call, Answer};
 ghost use Rattle.planner.specs.Shown.{model, store_in, CallDone};
 ghost use Rattle.sheets.specs.Reading.{front_row, voice_item, row_item, item_at, read_sheet};
-ghost use Rattle.sheets.specs.Loading.{load_answer, outcome_answer, LoadLeaves, LoadBack, LoadLasts, Unsearched, ItemRead, RecordsRead};
+ghost use Rattle.sheets.specs.Loading.{load_answer, outcome_answer, LoadLeaves, LoadBack, LoadLasts, Unsearched, ItemRead, Emptyings, RecordsRead};
 ghost use Rattle.sheets.specs.Saving.{sheet_of};
 
 use crate::fault::{Cause, SheetFault};
@@ -36,8 +35,8 @@ fn read_voice<B: Bank, S: Store>(
     table: &mut Table<B, S>,
     rest: &[u8],
 ) -> Result<Option<usize>, Cause>
-    requires { Unsearched (model table.old 0) (store_in S.Store.view table.old) }
-    ensures { ItemRead B.Bank.meaning (model table.old 0) (store_in S.Store.view table.old) (voice_item B.Bank.meaning (model table.old 0).voices (model table.old 0).rows rest.now) result (model table.new 0) (store_in S.Store.view table.new) }
+    requires { Unsearched (model table.old 0) }
+    ensures { ItemRead S.Store.behaviour B.Bank.meaning (model table.old 0) (store_in table.old) (voice_item B.Bank.meaning (model table.old 0).voices (model table.old 0).rows rest.now) result (model table.new 0) (store_in table.new) }
 {
     if !table.rows().is_empty() {
         return Err(Cause::LateVoice);
@@ -54,8 +53,8 @@ fn read_row<B: Bank, S: Store>(
     table: &mut Table<B, S>,
     bytes: &[u8],
 ) -> Result<Option<usize>, Cause>
-    requires { Unsearched (model table.old 0) (store_in S.Store.view table.old) }
-    ensures { ItemRead B.Bank.meaning (model table.old 0) (store_in S.Store.view table.old) (row_item B.Bank.meaning (model table.old 0).voices (model table.old 0).rows bytes.now) result (model table.new 0) (store_in S.Store.view table.new) }
+    requires { Unsearched (model table.old 0) }
+    ensures { ItemRead S.Store.behaviour B.Bank.meaning (model table.old 0) (store_in table.old) (row_item B.Bank.meaning (model table.old 0).voices (model table.old 0).rows bytes.now) result (model table.new 0) (store_in table.new) }
 {
     let row = front_row::<B>(bytes);
     table.post(row)?;
@@ -67,8 +66,8 @@ fn read_record<B: Bank, S: Store>(
     table: &mut Table<B, S>,
     bytes: &[u8],
 ) -> Result<Option<usize>, Cause>
-    requires { Unsearched (model table.old 0) (store_in S.Store.view table.old) }
-    ensures { ItemRead B.Bank.meaning (model table.old 0) (store_in S.Store.view table.old) (item_at B.Bank.meaning (model table.old 0).voices (model table.old 0).rows bytes.now) result (model table.new 0) (store_in S.Store.view table.new) }
+    requires { Unsearched (model table.old 0) }
+    ensures { ItemRead S.Store.behaviour B.Bank.meaning (model table.old 0) (store_in table.old) (item_at B.Bank.meaning (model table.old 0).voices (model table.old 0).rows bytes.now) result (model table.new 0) (store_in table.new) }
 {
     match bytes {
         [] => Err(Cause::NoRecord),
@@ -81,9 +80,9 @@ fn read_record<B: Bank, S: Store>(
 
 // Reads records until the sheet ends, or one is faulty.
 fn read_records<B: Bank, S: Store>(table: &mut Table<B, S>, bytes: &[u8]) -> Result<(), SheetFault>
-    requires none { model table.old 0 ≡ empty }
-    requires holds { IsEmpty (store_in S.Store.view table.old) }
-    ensures { RecordsRead (read_sheet B.Bank.meaning bytes.now) (store_in S.Store.view table.old) result (model table.new 0) (store_in S.Store.view table.new) }
+    requires { model table.old 0 ≡ empty }
+    ensures read { RecordsRead S.Store.behaviour B.Bank.meaning bytes.now (store_in table.old) (model table.new 0) (store_in table.new) (read_sheet B.Bank.meaning bytes.now) result }
+    ensures store { Emptyings S.Store.behaviour (store_in table.old) (store_in table.new) }
 {
     let mut rest = bytes;
     loop {
@@ -100,7 +99,7 @@ fn read_records<B: Bank, S: Store>(table: &mut Table<B, S>, bytes: &[u8]) -> Res
 
 // Leaves no voices and no rows where the sheet was declined.
 fn wipe_declined<B: Bank, S: Store>(table: &mut Table<B, S>, res: &Result<(), SheetFault>)
-    ensures declined { is_err res.now ≡ true → CallDone B.Bank.meaning S.Store.view table.old Call.wipe Answer.done table.new }
+    ensures declined { is_err res.now ≡ true → CallDone table.old Call.wipe Answer.done table.new }
     ensures accepted { is_err res.now ≡ false → table.new ≡ table.old }
 {
     if res.is_err() {
@@ -112,9 +111,9 @@ fn wipe_declined<B: Bank, S: Store>(table: &mut Table<B, S>, res: &Result<(), Sh
 // voices and no rows.
 pub fn load<B: Bank, S: Store>(table: &mut Table<B, S>, bytes: &[u8]) -> Result<(), SheetFault>
     ensures value { load_answer result ≡ outcome_answer (read_sheet B.Bank.meaning bytes.now) }
-    ensures after { LoadLeaves (read_sheet B.Bank.meaning bytes.now) (store_in S.Store.view table.old) (model table.new 0) (store_in S.Store.view table.new) }
+    ensures after { LoadLeaves S.Store.behaviour (read_sheet B.Bank.meaning bytes.now) (store_in table.old) (model table.new 0) (store_in table.new) }
     ensures back { LoadBack (read_sheet B.Bank.meaning bytes.now) bytes.now (sheet_of table.new) }
-    ensures lasts { LoadLasts B.Bank.meaning (model table.old) (store_in S.Store.view table.old) (read_sheet B.Bank.meaning bytes.now) (model table.new 0) (store_in S.Store.view table.new) }
+    ensures lasts { LoadLasts S.Store.behaviour B.Bank.meaning (model table.old) (store_in table.old) bytes.now (model table.new 0) (store_in table.new) }
 {
     table.wipe();
     let result = read_records(table, bytes);

@@ -14,7 +14,7 @@ use Rattle.sheets.specs.Reading.{voice_item, if_passes}
 use Rattle.sheets.specs.Reading.Item.{voice, fault}
 use Rattle.sheets.proofs.Numbers.{eight_bytes}
 use Rattle.sheets.proofs.Items.{late_voice, cut_voice, whole_voice}
-use Rattle.sheets.proofs.Steps.{still_empty, at_item, voice_declared, voice_declined}
+use Rattle.sheets.proofs.Steps.{at_item, voice_declared, voice_declined}
 use Rattle.sheets.proofs.load.read_voice.Goals as goal
 
 pub returns-then-not-is_empty : goal.returns-then-not-is_empty
@@ -23,9 +23,9 @@ returns-then-not-is_empty g c =
     let t = c.args.table.now in
     let bs = c.args.rest.now in
     let some : length (rows_in t) ≡ 0 → ⊥ = λ z. eqb-false (length c.rows.result.now) 0 (sym c.if-not-is_empty.ensures) (sym (length-map c.rows.result.now row_of) ∙ ap length c.rows.ensures ∙ z) in
-    at_item m (model t 0) (model t 0) (store_in g.S.Store.view t) (store_in g.S.Store.view t) (fault 3 0 Sheet) (voice_item m (vec_items t.voices) (rows_in t) bs) (Err LateVoice)
+    at_item g.S.Store.behaviour m (model t 0) (model t 0) (store_in t) (store_in t) (fault 3 0 Sheet) (voice_item m (vec_items t.voices) (rows_in t) bs) (Err LateVoice)
     (late_voice m (vec_items t.voices) (rows_in t) bs some)
-    (record { step = refl; table = c.requires.begins; store = still_empty (store_in g.S.Store.view t) c.requires.holds })
+    (record { step = refl; table = c.requires; store = refl })
 
 pub returns-in_default : goal.returns-in_default
 returns-in_default g c =
@@ -34,17 +34,17 @@ returns-in_default g c =
     let bs = c.args.rest.now in
     let none : length (rows_in t) ≡ 0 = sym (ap length c.rows.ensures) ∙ length-map c.rows.result.now row_of ∙ eqb-true (length c.rows.result.now) 0 (sym c.if-not-is_empty.ensures) in
     let short : length bs < 8 = c.in_default.ensures.cases in
-    at_item m (model t 0) (model t 0) (store_in g.S.Store.view t) (store_in g.S.Store.view t) (fault 6 0 Sheet) (voice_item m (vec_items t.voices) (rows_in t) bs) (Err CutVoice)
+    at_item g.S.Store.behaviour m (model t 0) (model t 0) (store_in t) (store_in t) (fault 6 0 Sheet) (voice_item m (vec_items t.voices) (rows_in t) bs) (Err CutVoice)
     (cut_voice m (vec_items t.voices) (rows_in t) bs none short)
-    (record { step = refl; table = c.requires.begins; store = still_empty (store_in g.S.Store.view t) c.requires.holds })
+    (record { step = refl; table = c.requires; store = refl })
 
 pub returns-in_err-declare : goal.returns-in_err-declare
 returns-in_err-declare g c =
     let m = g.B.Bank.meaning in
     let t = c.args.table.now in
     let u = c.declare.new.self in
-    let v = store_in g.S.Store.view t in
-    let w = store_in g.S.Store.view u in
+    let v = store_in t in
+    let w = store_in u in
     let bs = c.args.rest.now in
     let s = c.from_le_bytes.result in
     let r = c.from_residual.result in
@@ -54,23 +54,23 @@ returns-in_err-declare g c =
     let none : length (rows_in t) ≡ 0 = sym (ap length c.rows.ensures) ∙ length-map c.rows.result.now row_of ∙ eqb-true (length c.rows.result.now) 0 (sym c.if-not-is_empty.ensures) in
     let long : 8 ≤ length bs = c.in-Some.ensures.cases.enough in
     let number : number_in (take 8 bs) ≡ s = eight_bytes bs long ∙ ap (from_le_bytes w64) (sym c.in-Some.ensures.cases.same) ∙ sym c.from_le_bytes.ensures in
-    at_item m (model t 0) (model u 0) v w (if_passes (judged m (begun (vec_items t.voices) (rows_in t)) (declare s)) (voice s)) (voice_item m (vec_items t.voices) (rows_in t) bs) r
+    at_item g.S.Store.behaviour m (model t 0) (model u 0) v w (if_passes (judged m (begun (vec_items t.voices) (rows_in t)) (declare s)) (voice s)) (voice_item m (vec_items t.voices) (rows_in t) bs) r
     (whole_voice m (vec_items t.voices) (rows_in t) bs s none long number)
-    (voice_declined m (model t 0) (model u (d.lost 0)) v w s r refusal c.requires (p.1 ∙ ap Err p.2) (d.does 0))
+    (voice_declined g.S.Store.behaviour m (model t 0) (model u (d.lost 0)) v w s r refusal c.requires (p.1 ∙ ap Err p.2) (d.does 0))
 
 pub returns : goal.returns
 returns g c =
     let m = g.B.Bank.meaning in
     let t = c.args.table.now in
     let u = c.declare.new.self in
-    let v = store_in g.S.Store.view t in
-    let w = store_in g.S.Store.view u in
+    let v = store_in t in
+    let w = store_in u in
     let bs = c.args.rest.now in
     let s = c.from_le_bytes.result in
     let d = c.in_ok-declare.ensures.does in
     let none : length (rows_in t) ≡ 0 = sym (ap length c.rows.ensures) ∙ length-map c.rows.result.now row_of ∙ eqb-true (length c.rows.result.now) 0 (sym c.if-not-is_empty.ensures) in
     let long : 8 ≤ length bs = c.in-Some.ensures.cases.enough in
     let number : number_in (take 8 bs) ≡ s = eight_bytes bs long ∙ ap (from_le_bytes w64) (sym c.in-Some.ensures.cases.same) ∙ sym c.from_le_bytes.ensures in
-    at_item m (model t 0) (model u 0) v w (if_passes (judged m (begun (vec_items t.voices) (rows_in t)) (declare s)) (voice s)) (voice_item m (vec_items t.voices) (rows_in t) bs) (Ok (Some 9))
+    at_item g.S.Store.behaviour m (model t 0) (model u 0) v w (if_passes (judged m (begun (vec_items t.voices) (rows_in t)) (declare s)) (voice s)) (voice_item m (vec_items t.voices) (rows_in t) bs) (Ok (Some 9))
     (whole_voice m (vec_items t.voices) (rows_in t) bs s none long number)
-    (voice_declared m (model t 0) (model u (d.lost 0)) v w s (d.does 0))
+    (voice_declared g.S.Store.behaviour m (model t 0) (model u (d.lost 0)) v w s (d.does 0))
