@@ -10,7 +10,6 @@ use Rattle.rows.specs.Reading.{checked}
 use Rattle.writing.specs.Written.{written}
 use Rattle.writing.specs.WrittenRows.{written_members}
 use Rattle.writing.proofs.RowBytes.{members_length}
-use Rattle.stores.specs.Stores.{View}
 use Rattle.search.specs.Calls.{Answer}
 use Rattle.planner.specs.declared.table.Table.{Table}
 use Rattle.building.specs.declared.fault.BuildFault.{BuildFault}
@@ -136,19 +135,19 @@ answer_same (Err (Posting p)) = refl
 
 -- ---- what `build` ensures
 
-module _ {B S : Type 0} {b : bank.Ghosts B} {s : store.Ghosts S} (m : Meaning) (view : S → View) (letter : ℕ) (body mem : List ℕ) (members : List Member) (t u : Table B S b s) where
+module _ {B S : Type 0} {b : bank.Ghosts B} {s : store.Ghosts S} (m : Meaning) (letter : ℕ) (body mem : List ℕ) (members : List Member) (t u : Table B S b s) where
   -- the whole row answered with r, with the memory and the table u afterwards
   pub record Built (r : Result Unit BuildRefusal) (after : List ℕ) : Type 0 where
     pub value : own_fault r ≡ build_verdict m letter body members (length mem)
-    pub does : Posts (build_verdict m letter body members (length mem)) m view t (row_bytes letter body members) (build_answer r) u
-    pub lasts : PostLasts (build_verdict m letter body members (length mem)) m view t (row_bytes letter body members) (build_answer r) u
+    pub does : Posts (build_verdict m letter body members (length mem)) t (row_bytes letter body members) (build_answer r) u
+    pub lasts : PostLasts (build_verdict m letter body members (length mem)) t (row_bytes letter body members) (build_answer r) u
     pub memory : after ≡ build_memory m letter body members mem
 
   -- refused before Close
   pub built_not : (r : Result Unit BuildRefusal) (after : List ℕ) (f : BuildFault) → u ≡ t → r ≡ Err (BuildRefusal.Building f)
       → build_verdict m letter body members (length mem) ≡ Err f → after ≡ build_memory m letter body members mem → Built r after
   built_not r after f same e v w =
-      let s = stays m view t u (build_answer r) (build_verdict m letter body members (length mem)) f (row_bytes letter body members) v same in
+      let s = stays t u (build_answer r) (build_verdict m letter body members (length mem)) f (row_bytes letter body members) v same in
       record { value = ap own_fault e ∙ sym v; does = s.0; lasts = s.1; memory = w }
 
   -- after Close
@@ -156,8 +155,8 @@ module _ {B S : Type 0} {b : bank.Ghosts B} {s : store.Ghosts S} (m : Meaning) (
       → Ok ticket ≡ begin_answer m letter body (length mem) → begun ≡ begin_memory m letter body mem
       → Ok given ≡ members_answer ticket members → after ≡ members_memory ticket members begun → length after ≡ length mem
       → handed_back r ≡ to_hand_back (close_verdict given (length after)) given
-      → Posts (close_verdict given (length after)) m view t (row_in given after) (close_answer r) u
-      → PostLasts (close_verdict given (length after)) m view t (row_in given after) (close_answer r) u
+      → Posts (close_verdict given (length after)) t (row_in given after) (close_answer r) u
+      → PostLasts (close_verdict given (length after)) t (row_in given after) (close_answer r) u
       → Built s after
   built_by begun after ticket given r s e b w g x same back does lasts =
       let f = filled m letter body mem begun after members ticket b w x in
@@ -165,11 +164,11 @@ module _ {B S : Type 0} {b : bank.Ghosts B} {s : store.Ghosts S} (m : Meaning) (
       let v = close_verdict given (length after) in
       let a : close_answer r ≡ build_answer s = answer_same r ∙ ap build_answer (sym e) in
       let bytes = row_bytes letter body members in
-      let d : Posts v m view t (row_in given after) (build_answer s) u = subst (λ (y : Answer). Posts v m view t (row_in given after) y u) a does in
-      let l : PostLasts v m view t (row_in given after) (build_answer s) u = subst (λ (y : Answer). PostLasts v m view t (row_in given after) y u) a lasts in
+      let d : Posts v t (row_in given after) (build_answer s) u = subst (λ (y : Answer). Posts v t (row_in given after) y u) a does in
+      let l : PostLasts v t (row_in given after) (build_answer s) u = subst (λ (y : Answer). PostLasts v t (row_in given after) y u) a lasts in
       record {
         value = ap own_fault e ∙ own_back r v given back ∙ c.0;
-        does = posts_same m view t u (build_answer s) v (build_verdict m letter body members (length mem)) (row_in given after) bytes c.0 c.1 d;
-        lasts = lasts_same m view t u (build_answer s) v (build_verdict m letter body members (length mem)) (row_in given after) bytes c.0 c.1 l;
+        does = posts_same t u (build_answer s) v (build_verdict m letter body members (length mem)) (row_in given after) bytes c.0 c.1 d;
+        lasts = lasts_same t u (build_answer s) v (build_verdict m letter body members (length mem)) (row_in given after) bytes c.0 c.1 l;
         memory = f.0;
       }

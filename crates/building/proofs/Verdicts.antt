@@ -6,7 +6,6 @@ use Rattle.std.proofs.lemmas.Bool.{leb-true}
 use Rattle.rows.specs.Bytes.{counted}
 use Rattle.rows.specs.Rows.{Meaning}
 use Rattle.rows.specs.Reading.{checked}
-use Rattle.stores.specs.Stores.{View}
 use Rattle.writing.specs.Written.{written}
 use Rattle.search.specs.Calls.{Call, Answer}
 use Rattle.planner.specs.declared.table.Table.{Table}
@@ -54,18 +53,18 @@ begun m letter body mem after t e w =
 
 -- ---- the table
 
-module _ {B S : Type 0} {b : bank.Ghosts B} {s : store.Ghosts S} (m : Meaning) (view : S → View) (t u : Table B S b s) (a : Answer) where
+module _ {B S : Type 0} {b : bank.Ghosts B} {s : store.Ghosts S} (t u : Table B S b s) (a : Answer) where
   -- refused: the table stays
-  pub stays : (v : Verdict) (f : BuildFault) (bytes : List ℕ) → v ≡ Err f → u ≡ t → Posts v m view t bytes a u × PostLasts v m view t bytes a u
-  stays v f bytes e same = (subst (λ (x : Verdict). Posts x m view t bytes a u) (sym e) same, subst (λ (x : Verdict). PostLasts x m view t bytes a u) (sym e) same)
+  pub stays : (v : Verdict) (f : BuildFault) (bytes : List ℕ) → v ≡ Err f → u ≡ t → Posts v t bytes a u × PostLasts v t bytes a u
+  stays v f bytes e same = (subst (λ (x : Verdict). Posts x t bytes a u) (sym e) same, subst (λ (x : Verdict). PostLasts x t bytes a u) (sym e) same)
 
   -- the same verdict, and where it finds nothing wrong the same bytes
-  pub posts_same : (v w : Verdict) (bytes others : List ℕ) → v ≡ w → (w ≡ Ok tt → bytes ≡ others) → Posts v m view t bytes a u → Posts w m view t others a u
+  pub posts_same : (v w : Verdict) (bytes others : List ℕ) → v ≡ w → (w ≡ Ok tt → bytes ≡ others) → Posts v t bytes a u → Posts w t others a u
   posts_same v (Ok tt) bytes others e same h =
-      subst (λ (x : List ℕ). CallDone m view t (Call.post x) a u) (same refl) (subst (λ (x : Verdict). Posts x m view t bytes a u) e h)
-  posts_same v (Err f) bytes others e same h = subst (λ (x : Verdict). Posts x m view t bytes a u) e h
+      subst (λ (x : List ℕ). CallDone t (Call.post x) a u) (same refl) (subst (λ (x : Verdict). Posts x t bytes a u) e h)
+  posts_same v (Err f) bytes others e same h = subst (λ (x : Verdict). Posts x t bytes a u) e h
 
-  pub lasts_same : (v w : Verdict) (bytes others : List ℕ) → v ≡ w → (w ≡ Ok tt → bytes ≡ others) → PostLasts v m view t bytes a u → PostLasts w m view t others a u
+  pub lasts_same : (v w : Verdict) (bytes others : List ℕ) → v ≡ w → (w ≡ Ok tt → bytes ≡ others) → PostLasts v t bytes a u → PostLasts w t others a u
   lasts_same v (Ok tt) bytes others e same h =
-      subst (λ (x : List ℕ). CallLasts m view t (Call.post x) a u) (same refl) (subst (λ (x : Verdict). PostLasts x m view t bytes a u) e h)
-  lasts_same v (Err f) bytes others e same h = subst (λ (x : Verdict). PostLasts x m view t bytes a u) e h
+      subst (λ (x : List ℕ). CallLasts t (Call.post x) a u) (same refl) (subst (λ (x : Verdict). PostLasts x t bytes a u) e h)
+  lasts_same v (Err f) bytes others e same h = subst (λ (x : Verdict). PostLasts x t bytes a u) e h

@@ -2,8 +2,6 @@
 use Rattle.rows.specs.declared.bank.Bank as bank
 use Rattle.stores.specs.declared.store.Store as store
 use Rattle.std.specs.Prelude.{◌≡◌, ℕ, List, take, Some, None, Ok, Err, Option, Result}
-use Rattle.rows.specs.Rows.{Meaning}
-use Rattle.stores.specs.Stores.{View}
 use Rattle.search.specs.Calls.{Call, Answer}
 use Rattle.planner.specs.declared.table.Table.{Table}
 use Rattle.planner.specs.Refusals.{refusal_number}
@@ -38,11 +36,11 @@ row_in t memory = take (row_length t) memory
 
 module _ {B S : Type 0} {b : bank.Ghosts B} {s : store.Ghosts S} where
   -- Where nothing is wrong, the table t and its store come to the table u and its store by Post of these bytes, with this answer; otherwise they stay.
-  abbrev pub Posts : Verdict → Meaning → (S → View) → Table B S b s → List ℕ → Answer → Table B S b s → Type 0
-  Posts (Ok x) m view t bytes a u = CallDone m view t (Call.post bytes) a u
-  Posts (Err fault) m view t bytes a u = u ≡ t
+  abbrev pub Posts : Verdict → Table B S b s → List ℕ → Answer → Table B S b s → Type 0
+  Posts (Ok x) t bytes a u = CallDone t (Call.post bytes) a u
+  Posts (Err fault) t bytes a u = u ≡ t
 
   -- and then what lasts over whole histories of calls lasts over this Post
-  abbrev pub PostLasts : Verdict → Meaning → (S → View) → Table B S b s → List ℕ → Answer → Table B S b s → Type 0
-  PostLasts (Ok x) m view t bytes a u = CallLasts m view t (Call.post bytes) a u
-  PostLasts (Err fault) m view t bytes a u = u ≡ t
+  abbrev pub PostLasts : Verdict → Table B S b s → List ℕ → Answer → Table B S b s → Type 0
+  PostLasts (Ok x) t bytes a u = CallLasts t (Call.post bytes) a u
+  PostLasts (Err fault) t bytes a u = u ≡ t

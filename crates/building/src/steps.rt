@@ -70,8 +70,8 @@ pub fn close<B: Bank, S: Store>(
     memory: &[u8],
 ) -> Result<(), CloseFault>
     ensures back { handed_back result ≡ to_hand_back (close_verdict ticket (length memory.now)) ticket }
-    ensures does { Posts (close_verdict ticket (length memory.now)) B.Bank.meaning S.Store.view table.old (row_in ticket memory.now) (close_answer result) table.new }
-    ensures lasts { PostLasts (close_verdict ticket (length memory.now)) B.Bank.meaning S.Store.view table.old (row_in ticket memory.now) (close_answer result) table.new }
+    ensures does { Posts (close_verdict ticket (length memory.now)) table.old (row_in ticket memory.now) (close_answer result) table.new }
+    ensures lasts { PostLasts (close_verdict ticket (length memory.now)) table.old (row_in ticket memory.now) (close_answer result) table.new }
 {
     // no `map_err`, as in give_member
     if let Err(fault) = ticket.check_close(memory.len()) {

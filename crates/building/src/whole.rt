@@ -37,8 +37,8 @@ pub fn build<B: Bank, S: Store>(
     members: &[Member],
 ) -> Result<(), BuildRefusal>
     ensures value { own_fault result ≡ build_verdict B.Bank.meaning letter body.now members.now (length memory.old) }
-    ensures does { Posts (build_verdict B.Bank.meaning letter body.now members.now (length memory.old)) B.Bank.meaning S.Store.view table.old (row_bytes letter body.now members.now) (build_answer result) table.new }
-    ensures lasts { PostLasts (build_verdict B.Bank.meaning letter body.now members.now (length memory.old)) B.Bank.meaning S.Store.view table.old (row_bytes letter body.now members.now) (build_answer result) table.new }
+    ensures does { Posts (build_verdict B.Bank.meaning letter body.now members.now (length memory.old)) table.old (row_bytes letter body.now members.now) (build_answer result) table.new }
+    ensures lasts { PostLasts (build_verdict B.Bank.meaning letter body.now members.now (length memory.old)) table.old (row_bytes letter body.now members.now) (build_answer result) table.new }
     ensures memory { memory.new ≡ build_memory B.Bank.meaning letter body.now members.now memory.old }
 {
     let ticket = begin::<B>(letter, body, memory)?;
