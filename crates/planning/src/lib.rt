@@ -39,7 +39,7 @@ pub fn plan<B: Bank, S: Store + Drop>(
     store: S,
     sheet: &[u8],
 ) -> Result<Vec<u8>, AllocError>
-    ensures { IfOk result (λ text. Planned B.Bank.meaning (S.Store.view store) (take most_sheet sheet.now) text.items) }
+    ensures { IfOk result (λ text. Planned S.Store.behaviour B.Bank.meaning (S.Store.state store) (take most_sheet sheet.now) text.items) }
 {
     let mut table: Table<B, S> = Table::make(heap, store)?;
     let length = sheet.len().min(MOST_SHEET);

@@ -11,28 +11,28 @@ use Rattle.planning.proofs.plan.Goals.{then-is_ok, else-is_ok}
 
 pub returns : goal.returns
 returns g c =
+    let st = g.S.Store.behaviour in
     let m = g.B.Bank.meaning in
-    let view = g.S.Store.view in
+    let L = g.met.B.Bank.lawful in
     let n = c.min-length.result in
     let few : n ≡ min (length c.args.sheet.now) 20000 = omega (arith, c.min-length.ensures) in
     let sheet = take n c.args.sheet.now in
     let r = c.load-answer.result in
     let t = c.load-answer.new.table in
-    let history = c.load-answer.ensures.lasts.history [] 0 c.in_ok-table.ensures.begins in
-    let given = view c.args.store in
-    let first = store_in view c.in_ok-table.table in
-    let later = c.in_ok-table.ensures.store.later in
+    let given = g.S.Store.state c.args.store in
+    let lasts = c.load-answer.ensures.lasts in
+    let history = lasts.history given [] 0 c.in_ok-table.ensures in
     IfOk-weaker c.written_report.result _ _ (λ text h.
-    subst (λ x. Planned m given x text.items) (sheet_front c.args.sheet.now n few)
+    subst (λ x. Planned st m given x text.items) (sheet_front c.args.sheet.now n few)
     (elim c.if-is_ok.branch [
       | then-is_ok w ↦
           let u = w.solve.new.self in
           let d = w.solve.ensures.does in
-          solved_job m g.met.B.Bank.lawful given sheet text.items (read_sheet m sheet) r (model t 0) (model u (d.lost 0)) first (store_in view t) (store_in view u)
-          (solve_answer w.solve.result (found_in u)) (sym c.is_ok.ensures.value ∙ w.if-is_ok.true) c.load-answer.ensures.value refl later c.load-answer.ensures.after history (d.does 0)
+          solved_job st m L given sheet text.items (read_sheet m sheet) r (model t 0) (model u (d.lost 0)) (store_in t) (store_in u)
+          (solve_answer w.solve.result (found_in u)) (sym c.is_ok.ensures.value ∙ w.if-is_ok.true) c.load-answer.ensures.value refl c.load-answer.ensures.after.table history (d.does 0)
           (h ∙ ap (λ x. report_text (load_answer r) (model x 0)) w.table-is ∙ same_report (load_answer r) (model u 0) (model u (d.lost 0)) refl)
       | else-is_ok w ↦
-          declined_job m g.met.B.Bank.lawful given sheet text.items (read_sheet m sheet) r (model t 0) first (store_in view t)
-          (sym c.is_ok.ensures.value ∙ w.if-is_ok.false) c.load-answer.ensures.value refl later c.load-answer.ensures.after history
+          declined_job st m L given sheet text.items (read_sheet m sheet) r (model t 0) (store_in t)
+          (sym c.is_ok.ensures.value ∙ w.if-is_ok.false) c.load-answer.ensures.value refl history (lasts.stands given [] 0 c.in_ok-table.ensures)
           (h ∙ ap (λ x. report_text (load_answer r) (model x 0)) w.table-is)
     ])) c.written_report.ensures
