@@ -1,10 +1,18 @@
 -- The cases, by computation.
-use Rattle.std.proofs.Common.{refl}
+use Rattle.std.proofs.Common.{◌≡◌, Bool, true, false, eqb, length, refl, ap}
+use Rattle.std.proofs.lemmas.Bool.{both_ways, eqb-true}
+use Rattle.std.specs.List.{list_all}
 use lib.Count.{ones, count_trailing_zeros}
 use Rattle.sets.specs.Sets.{mask, sift}
 use Rattle.narrowing.specs.Shared.{cut}
 use Rattle.cases.specs.Searches.{SearchesStand}
-use Rattle.cases.specs.Refusals.{RefusalsStand, LimitsReached}
+use Rattle.rows.specs.Bytes.{total_bytes}
+use Rattle.search.specs.Calls.{Judgement, judged}
+use Rattle.search.specs.Calls.Judgement.{passes, declined}
+use Rattle.kinds.proofs.Computed.{all_by}
+use Rattle.cases.specs.Tables.{differing}
+use Rattle.cases.specs.Refusals.{Case, Comes, refusals, RefusalsStand, LimitsReached}
+use Rattle.cases.specs.Refusals.Case.{judgement_of, bytes_of, length_of}
 use Rattle.cases.proofs.Playing.{led}
 
 pub searches_stand : SearchesStand
@@ -31,66 +39,35 @@ searches_stand = record {
   five_again = led _ _ _ _ _ _ refl refl;
 }
 
+-- ---- refusals
+
+abbrev same_judgement : Judgement → Judgement → Bool
+same_judgement passes passes = true
+same_judgement passes (declined n) = false
+same_judgement (declined n) passes = false
+same_judgement (declined n) (declined k) = eqb n k
+
+same_judgement_is : (x y : Judgement) → same_judgement x y ≡ true → x ≡ y
+same_judgement_is passes passes e = refl
+same_judgement_is passes (declined n) e = absurd (both_ways false refl e)
+same_judgement_is (declined n) passes e = absurd (both_ways false refl e)
+same_judgement_is (declined n) (declined k) e = ap declined (eqb-true n k e)
+
+abbrev comes : Case → Bool
+comes (judgement_of t c judgement) = same_judgement (judged differing t c) judgement
+comes (bytes_of rows bytes) = eqb (total_bytes rows) bytes
+comes (length_of bs bytes) = eqb (length bs) bytes
+
+comes_so : (c : Case) → comes c ≡ true → Comes c
+comes_so (judgement_of t c judgement) e = same_judgement_is (judged differing t c) judgement e
+comes_so (bytes_of rows bytes) e = eqb-true (total_bytes rows) bytes e
+comes_so (length_of bs bytes) e = eqb-true (length bs) bytes e
+
+all_come : list_all comes refusals ≡ true
+all_come = refl
+
 pub refusals_stand : RefusalsStand
-refusals_stand = record {
-  some_set = refl;
-  full_set = refl;
-  empty_set = refl;
-  voice_80 = refl;
-  voice_81 = refl;
-  empty_set_first = refl;
-  no_letter = refl;
-  other_letter = refl;
-  letter_first = refl;
-  no_count = refl;
-  count_0 = refl;
-  count_1 = refl;
-  count_32 = refl;
-  count_33 = refl;
-  count_first = refl;
-  byte_missing = refl;
-  byte_more = refl;
-  length_first = refl;
-  mark_other = refl;
-  second_mark = refl;
-  mark_first = refl;
-  voice_last = refl;
-  voice_past = refl;
-  argument_1 = refl;
-  argument_below = refl;
-  repeated_voice = refl;
-  undeclared_first = refl;
-  undeclared_repeated = refl;
-  undeclared_limit = refl;
-  rule_first = refl;
-  row_120 = refl;
-  row_121 = refl;
-  bytes_before = refl;
-  bytes_after = refl;
-  bytes_full = refl;
-  bytes_past = refl;
-  bytes_two_more = refl;
-  bytes_two_past = refl;
-  budget_0 = refl;
-  budget_1 = refl;
-  budget_most = refl;
-  budget_past = refl;
-  budget_0_over = refl;
-  opened_most = refl;
-  opened_past = refl;
-  opened_last = refl;
-  opened_all = refl;
-  opened_over = refl;
-  opened_found = refl;
-  budget_first = refl;
-  read_fresh = refl;
-  read_underway = refl;
-  read_none = refl;
-  read_short = refl;
-  read_exact = refl;
-  read_nothing = refl;
-  wipe_full = refl;
-}
+refusals_stand = all_by comes Comes comes_so refusals all_come
 
 pub limits_reached : LimitsReached
 limits_reached = record {

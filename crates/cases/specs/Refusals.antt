@@ -1,16 +1,30 @@
 -- Calls at both sides of each limit, and calls that more than one refusal fits, each of which the checker computes.
-use Rattle.std.specs.Prelude.{◌≡◌, ℕ, List, [], ◌∷◌, ◌++◌, length, replicate}
+use Rattle.std.specs.Prelude.{◌≡◌, ℕ, List, [], ◌∷◌, ◌++◌, length, replicate, All}
 use Rattle.rows.specs.Rows.{RowData}
 use Rattle.rows.specs.Bytes.{decode, total_bytes}
 use Rattle.search.specs.Search.{Place}
 use Rattle.search.specs.Search.Place.{fresh, going, found, none}
-use Rattle.search.specs.Calls.{Table, begun, empty, judged, Call, Answer}
+use Rattle.search.specs.Calls.{Table, begun, empty, Call, Answer, Judgement, judged}
 use Rattle.search.specs.Calls.Call.{declare, post, solve, read, wipe}
 use Rattle.search.specs.Calls.Answer.{done, refused}
 use Rattle.search.specs.Calls.Judgement.{passes, declined}
 use Rattle.cases.specs.Leading.{Leads}
 use Rattle.cases.specs.Shelving.{shelf}
 use Rattle.cases.specs.Tables.{differing, large, first_differ, table}
+
+-- ---- what a case says
+
+-- what becomes of this call over this table of the bank A; how many bytes these rows have together; how long these bytes are
+pub data Case : Type 0 where
+  judgement_of : Table → Call → Judgement → Case
+  bytes_of : List RowData → ℕ → Case
+  length_of : List ℕ → ℕ → Case
+
+-- it comes to what is written there
+abbrev pub Comes : Case → Type 0
+Comes (judgement_of t c judgement) = judged differing t c ≡ judgement
+Comes (bytes_of rows bytes) = total_bytes rows ≡ bytes
+Comes (length_of bs bytes) = length bs ≡ bytes
 
 -- ---- tables
 
@@ -65,76 +79,94 @@ full_table = begun (replicate 32 6) (long_rows 3 8 ++ (decode differing (first_d
 
 -- ---- the cases
 
-pub record RefusalsStand : Type 0 where
-  -- Declare: an empty set; a voice past the 80th
-  pub some_set : judged differing empty (declare 1) ≡ passes
-  pub full_set : judged differing empty (declare 0xFFFF_FFFF_FFFF_FFFF) ≡ passes
-  pub empty_set : judged differing empty (declare 0) ≡ declined 10
-  pub voice_80 : judged differing (voices 79) (declare 6) ≡ passes
-  pub voice_81 : judged differing (voices 80) (declare 6) ≡ declined 11
-  pub empty_set_first : judged differing (voices 80) (declare 0) ≡ declined 10
-  -- Post: the letter
-  pub no_letter : judged differing empty (post []) ≡ declined 2
-  pub other_letter : judged differing (voices 1) (post (0x42 ∷ 1 ∷ 0x4D ∷ 0 ∷ 0 ∷ 0 ∷ [])) ≡ declined 2
-  pub letter_first : judged differing empty (post (0x42 ∷ 0 ∷ [])) ≡ declined 2
-  -- the count, from 1 to 32
-  pub no_count : judged differing empty (post (0x41 ∷ [])) ≡ declined 5
-  pub count_0 : judged differing empty (post (first_differ 0)) ≡ declined 5
-  pub count_1 : judged differing (voices 80) (post (first_differ 1)) ≡ passes
-  pub count_32 : judged differing (voices 80) (post (first_differ 32)) ≡ passes
-  pub count_33 : judged differing (voices 80) (post (first_differ 33)) ≡ declined 5
-  pub count_first : judged differing empty (post (0x41 ∷ 33 ∷ [])) ≡ declined 5
-  -- the length
-  pub byte_missing : judged differing (voices 1) (post (0x41 ∷ 1 ∷ 0x4D ∷ 0 ∷ 0 ∷ [])) ≡ declined 6
-  pub byte_more : judged differing (voices 1) (post (first_differ 1 ++ (0 ∷ []))) ≡ declined 6
-  pub length_first : judged differing empty (post (0x41 ∷ 1 ∷ 0x4C ∷ 0 ∷ 0 ∷ [])) ≡ declined 6
-  -- the mark of each member
-  pub mark_other : judged differing (voices 1) (post (0x41 ∷ 1 ∷ 0x4C ∷ 0 ∷ 0 ∷ 0 ∷ [])) ≡ declined 7
-  pub second_mark : judged differing (voices 2) (post (0x41 ∷ 2 ∷ 0x4D ∷ 0 ∷ 0 ∷ 0 ∷ 0x4E ∷ 1 ∷ 0 ∷ 0 ∷ [])) ≡ declined 7
-  pub mark_first : judged differing empty (post (0x41 ∷ 1 ∷ 0x4C ∷ 0 ∷ 1 ∷ 0 ∷ [])) ≡ declined 7
-  -- a voice that is not declared goes before a rule that is broken, and that before the limits
-  pub voice_last : judged differing (voices 3) (post (one_member 2 0 0)) ≡ passes
-  pub voice_past : judged differing (voices 3) (post (one_member 3 0 0)) ≡ declined 8
-  pub argument_1 : judged differing (voices 1) (post (one_member 0 1 0)) ≡ declined 9
-  pub argument_below : judged differing (voices 1) (post (one_member 0 0xFF 0xFF)) ≡ declined 9
-  pub repeated_voice : judged differing (voices 1) (post repeated) ≡ declined 9
-  pub undeclared_first : judged differing (voices 1) (post (one_member 1 1 0)) ≡ declined 8
-  pub undeclared_repeated : judged differing empty (post repeated) ≡ declined 8
-  pub undeclared_limit : judged differing (short_rows 120) (post (one_member 1 0 0)) ≡ declined 8
-  pub rule_first : judged differing (short_rows 120) (post repeated) ≡ declined 9
-  -- 120 rows
-  pub row_120 : judged differing (short_rows 119) (post (first_differ 1)) ≡ passes
-  pub row_121 : judged differing (short_rows 120) (post (first_differ 1)) ≡ declined 12
-  -- 8,192 bytes: 8,162 and 30 more, 8,162 and 34, 8,164 and 30
-  pub bytes_before : total_bytes (long_rows 3 8) ≡ 8162
-  pub bytes_after : length (first_differ 7) ≡ 30
-  pub bytes_full : judged differing (long_table 3 8) (post (first_differ 7)) ≡ passes
-  pub bytes_past : judged differing (long_table 3 8) (post (first_differ 8)) ≡ declined 12
-  pub bytes_two_more : total_bytes (long_rows 4 6) ≡ 8164
-  pub bytes_two_past : judged differing (long_table 4 6) (post (first_differ 7)) ≡ declined 12
-  -- Solve: a budget from 1 to 1,000,000
-  pub budget_0 : judged differing empty (solve 0) ≡ declined 13
-  pub budget_1 : judged differing empty (solve 1) ≡ passes
-  pub budget_most : judged differing empty (solve 1_000_000) ≡ passes
-  pub budget_past : judged differing empty (solve 1_000_001) ≡ declined 13
-  pub budget_0_over : judged differing (standing none 1) (solve 0) ≡ declined 13
-  -- opened nodes and the budget, at most 1,000,000,000,000 together, unless the search is over
-  pub opened_most : judged differing (standing underway 999_999_000_000) (solve 1_000_000) ≡ passes
-  pub opened_past : judged differing (standing underway 999_999_000_001) (solve 1_000_000) ≡ declined 14
-  pub opened_last : judged differing (standing underway 999_999_999_999) (solve 1) ≡ passes
-  pub opened_all : judged differing (standing underway 1_000_000_000_000) (solve 1) ≡ declined 14
-  pub opened_over : judged differing (standing none 1_000_000_000_000) (solve 1) ≡ passes
-  pub opened_found : judged differing (standing (found []) 1_000_000_000_000) (solve 1_000_000) ≡ passes
-  pub budget_first : judged differing (standing underway 1_000_000_000_000) (solve 1_000_001) ≡ declined 13
-  -- Read: no result yet, or none; a buffer that is too short
-  pub read_fresh : judged differing (standing fresh 0) (read (7 ∷ 7 ∷ [])) ≡ declined 15
-  pub read_underway : judged differing (standing underway 1) (read (7 ∷ 7 ∷ [])) ≡ declined 15
-  pub read_none : judged differing (standing none 3) (read (7 ∷ 7 ∷ [])) ≡ declined 15
-  pub read_short : judged differing (standing (found (1 ∷ 3 ∷ [])) 2) (read (7 ∷ [])) ≡ declined 16
-  pub read_exact : judged differing (standing (found (1 ∷ 3 ∷ [])) 2) (read (7 ∷ 7 ∷ [])) ≡ passes
-  pub read_nothing : judged differing (standing (found []) 1) (read []) ≡ passes
-  -- Wipe passes always
-  pub wipe_full : judged differing (voices 80) wipe ≡ passes
+abbrev pub refusals : List Case
+refusals =
+    -- Declare: the least and the greatest set that is not empty, and the empty set
+    judgement_of empty (declare 1) passes
+    ∷ judgement_of empty (declare 0xFFFF_FFFF_FFFF_FFFF) passes
+    ∷ judgement_of empty (declare 0) (declined 10)
+    -- the 80th voice, and one more
+    ∷ judgement_of (voices 79) (declare 6) passes
+    ∷ judgement_of (voices 80) (declare 6) (declined 11)
+    -- an empty set goes before one voice more
+    ∷ judgement_of (voices 80) (declare 0) (declined 10)
+    -- Post, the letter: none is there, or one that the bank does not know
+    ∷ judgement_of empty (post []) (declined 2)
+    ∷ judgement_of (voices 1) (post (0x42 ∷ 1 ∷ 0x4D ∷ 0 ∷ 0 ∷ 0 ∷ [])) (declined 2)
+    -- it goes before a count of 0
+    ∷ judgement_of empty (post (0x42 ∷ 0 ∷ [])) (declined 2)
+    -- the count, from 1 to 32: none is there, or it is 0
+    ∷ judgement_of empty (post (0x41 ∷ [])) (declined 5)
+    ∷ judgement_of empty (post (first_differ 0)) (declined 5)
+    -- it is 1, 32 or 33
+    ∷ judgement_of (voices 80) (post (first_differ 1)) passes
+    ∷ judgement_of (voices 80) (post (first_differ 32)) passes
+    ∷ judgement_of (voices 80) (post (first_differ 33)) (declined 5)
+    -- it goes before a wrong length
+    ∷ judgement_of empty (post (0x41 ∷ 33 ∷ [])) (declined 5)
+    -- the length: a byte is missing, or one too many is there
+    ∷ judgement_of (voices 1) (post (0x41 ∷ 1 ∷ 0x4D ∷ 0 ∷ 0 ∷ [])) (declined 6)
+    ∷ judgement_of (voices 1) (post (first_differ 1 ++ (0 ∷ []))) (declined 6)
+    -- it goes before a wrong mark
+    ∷ judgement_of empty (post (0x41 ∷ 1 ∷ 0x4C ∷ 0 ∷ 0 ∷ [])) (declined 6)
+    -- the mark of each member: of the first, of the second
+    ∷ judgement_of (voices 1) (post (0x41 ∷ 1 ∷ 0x4C ∷ 0 ∷ 0 ∷ 0 ∷ [])) (declined 7)
+    ∷ judgement_of (voices 2) (post (0x41 ∷ 2 ∷ 0x4D ∷ 0 ∷ 0 ∷ 0 ∷ 0x4E ∷ 1 ∷ 0 ∷ 0 ∷ [])) (declined 7)
+    -- it goes before a voice that is not declared
+    ∷ judgement_of empty (post (0x41 ∷ 1 ∷ 0x4C ∷ 0 ∷ 1 ∷ 0 ∷ [])) (declined 7)
+    -- a voice: the last that is declared, and one past it
+    ∷ judgement_of (voices 3) (post (one_member 2 0 0)) passes
+    ∷ judgement_of (voices 3) (post (one_member 3 0 0)) (declined 8)
+    -- the kind's own rule: an argument of 1 or of -1, a voice that is there twice
+    ∷ judgement_of (voices 1) (post (one_member 0 1 0)) (declined 9)
+    ∷ judgement_of (voices 1) (post (one_member 0 0xFF 0xFF)) (declined 9)
+    ∷ judgement_of (voices 1) (post repeated) (declined 9)
+    -- a voice that is not declared goes before a rule that is broken, and before the limits, and that rule before the limits
+    ∷ judgement_of (voices 1) (post (one_member 1 1 0)) (declined 8)
+    ∷ judgement_of empty (post repeated) (declined 8)
+    ∷ judgement_of (short_rows 120) (post (one_member 1 0 0)) (declined 8)
+    ∷ judgement_of (short_rows 120) (post repeated) (declined 9)
+    -- the 120th row, and one more
+    ∷ judgement_of (short_rows 119) (post (first_differ 1)) passes
+    ∷ judgement_of (short_rows 120) (post (first_differ 1)) (declined 12)
+    -- 8,192 bytes: 8,162 and 30 more, 8,162 and 34, 8,164 and 30
+    ∷ bytes_of (long_rows 3 8) 8162
+    ∷ length_of (first_differ 7) 30
+    ∷ judgement_of (long_table 3 8) (post (first_differ 7)) passes
+    ∷ judgement_of (long_table 3 8) (post (first_differ 8)) (declined 12)
+    ∷ bytes_of (long_rows 4 6) 8164
+    ∷ judgement_of (long_table 4 6) (post (first_differ 7)) (declined 12)
+    -- Solve: a budget of 0, 1, 1,000,000 and 1,000,001, and of 0 where the search is over
+    ∷ judgement_of empty (solve 0) (declined 13)
+    ∷ judgement_of empty (solve 1) passes
+    ∷ judgement_of empty (solve 1_000_000) passes
+    ∷ judgement_of empty (solve 1_000_001) (declined 13)
+    ∷ judgement_of (standing none 1) (solve 0) (declined 13)
+    -- opened nodes and the budget, at most 1,000,000,000,000 together
+    ∷ judgement_of (standing underway 999_999_000_000) (solve 1_000_000) passes
+    ∷ judgement_of (standing underway 999_999_000_001) (solve 1_000_000) (declined 14)
+    ∷ judgement_of (standing underway 999_999_999_999) (solve 1) passes
+    ∷ judgement_of (standing underway 1_000_000_000_000) (solve 1) (declined 14)
+    -- unless the search is over
+    ∷ judgement_of (standing none 1_000_000_000_000) (solve 1) passes
+    ∷ judgement_of (standing (found []) 1_000_000_000_000) (solve 1_000_000) passes
+    -- the budget goes before them
+    ∷ judgement_of (standing underway 1_000_000_000_000) (solve 1_000_001) (declined 13)
+    -- Read: no result yet, or none
+    ∷ judgement_of (standing fresh 0) (read (7 ∷ 7 ∷ [])) (declined 15)
+    ∷ judgement_of (standing underway 1) (read (7 ∷ 7 ∷ [])) (declined 15)
+    ∷ judgement_of (standing none 3) (read (7 ∷ 7 ∷ [])) (declined 15)
+    -- a buffer that is too short, and those that are long enough
+    ∷ judgement_of (standing (found (1 ∷ 3 ∷ [])) 2) (read (7 ∷ [])) (declined 16)
+    ∷ judgement_of (standing (found (1 ∷ 3 ∷ [])) 2) (read (7 ∷ 7 ∷ [])) passes
+    ∷ judgement_of (standing (found []) 1) (read []) passes
+    -- Wipe passes always
+    ∷ judgement_of (voices 80) wipe passes
+    ∷ []
+
+-- Each case comes to what is written there.
+abbrev pub RefusalsStand : Type 0
+RefusalsStand = All Comes refusals
 
 -- The limits can be reached, and not passed.
 pub record LimitsReached : Type 0 where
