@@ -1,57 +1,58 @@
 -- The cases, by computation.
-use Rattle.std.proofs.Common.{◌≡◌, Bool, true, false, eqb, length, refl, ap}
-use Rattle.std.proofs.lemmas.Bool.{both_ways, eqb-true}
+use Rattle.std.proofs.Common.{◌≡◌, Bool, true, ◌&&◌, eqb, length, refl}
+use Rattle.std.proofs.lemmas.Bool.{and_parts, eqb-true}
 use Rattle.std.specs.List.{list_all}
 use lib.Count.{ones, count_trailing_zeros}
 use Rattle.sets.specs.Sets.{mask, sift}
+use Rattle.sets.specs.Placings.{same}
+use Rattle.sets.proofs.Lists.{same_is}
 use Rattle.narrowing.specs.Shared.{cut}
-use Rattle.cases.specs.Searches.{SearchesStand}
 use Rattle.rows.specs.Bytes.{total_bytes}
-use Rattle.search.specs.Calls.{Judgement, judged}
-use Rattle.search.specs.Calls.Judgement.{passes, declined}
+use Rattle.search.specs.Calls.{judged}
 use Rattle.kinds.proofs.Computed.{all_by}
-use Rattle.cases.specs.Tables.{differing}
-use Rattle.cases.specs.Refusals.{Case, Comes, refusals, RefusalsStand, LimitsReached}
+use Rattle.cases.specs.Shelving.{shelf}
+use Rattle.cases.specs.Leading.{calls_of}
+use Rattle.cases.specs.Tables.{differing, given}
+use Rattle.cases.specs.SearchCases.{SearchCase, LeadsThere}
+use Rattle.cases.specs.Searches.{searches, SearchesStand}
+use Rattle.cases.specs.Refusals.{Case, Comes, refusals, RefusalsStand, limits, LimitsReached}
 use Rattle.cases.specs.Refusals.Case.{judgement_of, bytes_of, length_of}
-use Rattle.cases.proofs.Playing.{led}
+use Rattle.cases.proofs.Same.{same_list, same_list_is, same_judgement, same_judgement_is, same_answer, answers_of, same_answers_is, same_table, same_table_is}
+use Rattle.cases.proofs.Playing.{Played, formed, replay, replay_calls, led}
+
+-- ---- searches
+
+-- what has come of a case's calls is what is written there
+abbrev agrees : SearchCase → Played → Bool
+agrees c p = same_list same_answer (answers_of p.calls) (answers_of c.calls) && (same_table p.table c.table && same_list same p.view.held c.keys)
+
+-- what comes of them
+abbrev played : SearchCase → Played
+played c = replay shelf (given c.store) c.bank (calls_of c.calls)
+
+abbrev leads : SearchCase → Bool
+leads c = list_all formed (calls_of c.calls) && agrees c (played c)
+
+leads_so : (c : SearchCase) → leads c ≡ true → LeadsThere c
+leads_so c e =
+    let p : Played = played c in
+    let f = and_parts (list_all formed (calls_of c.calls)) (agrees c p) e in
+    let a = and_parts (same_list same_answer (answers_of p.calls) (answers_of c.calls)) (same_table p.table c.table && same_list same p.view.held c.keys) f.1 in
+    let t = and_parts (same_table p.table c.table) (same_list same p.view.held c.keys) a.1 in
+    led shelf (given c.store) c.bank c.calls c.table c.keys
+    f.0
+    (same_answers_is p.calls c.calls (replay_calls shelf (given c.store) c.bank (calls_of c.calls)) a.0)
+    (same_table_is p.table c.table t.0)
+    (same_list_is same same_is p.view.held c.keys t.1)
+
+all_lead : list_all leads searches ≡ true
+unfolding ones count_trailing_zeros mask sift cut
+all_lead = refl
 
 pub searches_stand : SearchesStand
-unfolding ones count_trailing_zeros mask sift cut
-searches_stand = record {
-  three_large = led _ _ _ _ _ _ refl refl;
-  three_bare = led _ _ _ _ _ _ refl refl;
-  three_exact = led _ _ _ _ _ _ refl refl;
-  three_stopped = led _ _ _ _ _ _ refl refl;
-  three_resumed = led _ _ _ _ _ _ refl refl;
-  five_large = led _ _ _ _ _ _ refl refl;
-  five_bare = led _ _ _ _ _ _ refl refl;
-  five_one_key = led _ _ _ _ _ _ refl refl;
-  five_no_key = led _ _ _ _ _ _ refl refl;
-  empty_large = led _ _ _ _ _ _ refl refl;
-  empty_bare = led _ _ _ _ _ _ refl refl;
-  empty_read = led _ _ _ _ _ _ refl refl;
-  two_large = led _ _ _ _ _ _ refl refl;
-  two_bare = led _ _ _ _ _ _ refl refl;
-  two_reads = led _ _ _ _ _ _ refl refl;
-  two_declined = led _ _ _ _ _ _ refl refl;
-  two_more = led _ _ _ _ _ _ refl refl;
-  two_wiped = led _ _ _ _ _ _ refl refl;
-  five_again = led _ _ _ _ _ _ refl refl;
-}
+searches_stand = all_by leads LeadsThere leads_so searches all_lead
 
 -- ---- refusals
-
-abbrev same_judgement : Judgement → Judgement → Bool
-same_judgement passes passes = true
-same_judgement passes (declined n) = false
-same_judgement (declined n) passes = false
-same_judgement (declined n) (declined k) = eqb n k
-
-same_judgement_is : (x y : Judgement) → same_judgement x y ≡ true → x ≡ y
-same_judgement_is passes passes e = refl
-same_judgement_is passes (declined n) e = absurd (both_ways false refl e)
-same_judgement_is (declined n) passes e = absurd (both_ways false refl e)
-same_judgement_is (declined n) (declined k) e = ap declined (eqb-true n k e)
 
 abbrev comes : Case → Bool
 comes (judgement_of t c judgement) = same_judgement (judged differing t c) judgement
@@ -69,13 +70,8 @@ all_come = refl
 pub refusals_stand : RefusalsStand
 refusals_stand = all_by comes Comes comes_so refusals all_come
 
+limits_lead : list_all leads limits ≡ true
+limits_lead = refl
+
 pub limits_reached : LimitsReached
-limits_reached = record {
-  voices_80 = led _ _ _ _ _ _ refl refl;
-  voices_81 = led _ _ _ _ _ _ refl refl;
-  rows_120 = led _ _ _ _ _ _ refl refl;
-  rows_121 = led _ _ _ _ _ _ refl refl;
-  bytes_8192 = led _ _ _ _ _ _ refl refl;
-  bytes_counted = refl;
-  bytes_8198 = led _ _ _ _ _ _ refl refl;
-}
+limits_reached = record { histories = all_by leads LeadsThere leads_so limits limits_lead; bytes_counted = refl }

@@ -1,5 +1,5 @@
 -- Histories over one store, as a function of the calls.
-use Rattle.std.proofs.Common.{◌≡◌, ℕ, zero, suc, Bool, true, ltb, List, [], ◌∷◌, sym, refl, ◌∙◌, subst, arith}
+use Rattle.std.proofs.Common.{◌≡◌, ℕ, zero, suc, Bool, true, ltb, List, [], ◌∷◌, sym, refl, ap, ap₂, ◌∙◌, subst, arith}
 use Rattle.std.proofs.lemmas.Bool.{and_parts, ltb-true}
 use Rattle.std.specs.List.{list_all}
 use Rattle.rows.specs.Rows.{Meaning}
@@ -76,10 +76,17 @@ module _ (s : Behaviour) (g : View) (m : Meaning) where
   replay_real (c ∷ cs) f =
       let fs = and_parts (formed c) (list_all formed cs) f in play_real c (replay cs) (formed_so c fs.0) (replay_real cs fs.1)
 
+  -- the calls of a history, played, are these calls
+  pub replay_calls : (cs : List Call) → calls_of (replay cs).calls ≡ cs
+  replay_calls [] = refl
+  replay_calls (c ∷ cs) = ap (λ (x : List Call). c ∷ x) (replay_calls cs)
+
   -- a history whose calls, played, have these answers and come to this table and these keys
   pub led : (h : List (Call × Answer)) (t : Table) (keys : List (List ℕ)) → list_all formed (calls_of h) ≡ true
-      → replay (calls_of h) ≡ record { calls = h; table = t; view = record { held = keys; space = (replay (calls_of h)).view.space; room = (replay (calls_of h)).view.room; steady = (replay (calls_of h)).view.steady } } → Leads s g m h t keys
-  led h t keys f e =
-      let v : View = record { held = keys; space = (replay (calls_of h)).view.space; room = (replay (calls_of h)).view.room; steady = (replay (calls_of h)).view.steady } in
+      → (replay (calls_of h)).calls ≡ h → (replay (calls_of h)).table ≡ t → (replay (calls_of h)).view.held ≡ keys → Leads s g m h t keys
+  led h t keys f a b k =
+      let v : View = (replay (calls_of h)).view in
+      let e : replay (calls_of h) ≡ record { calls = h; table = t; view = v } =
+      ap₂ {C = Played} (λ (x : List (Call × Answer)) (y : Table). record { calls = x; table = y; view = v }) a b in
       let x : Real (record { calls = h; table = t; view = v }) = subst Real e (replay_real (calls_of h) f) in
-      record { view = v; holds = refl; history = x.0; by = x.1 }
+      record { view = v; holds = k; history = x.0; by = x.1 }

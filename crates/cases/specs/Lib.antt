@@ -1,6 +1,7 @@
 pub mod Shelving
 pub mod Leading
 pub mod Tables
+pub mod SearchCases
 pub mod Searches
 pub mod Worked
 pub mod Refusals

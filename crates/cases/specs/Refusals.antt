@@ -8,9 +8,8 @@ use Rattle.search.specs.Calls.{Table, begun, empty, Call, Answer, Judgement, jud
 use Rattle.search.specs.Calls.Call.{declare, post, solve, read, wipe}
 use Rattle.search.specs.Calls.Answer.{done, refused}
 use Rattle.search.specs.Calls.Judgement.{passes, declined}
-use Rattle.cases.specs.Leading.{Leads}
-use Rattle.cases.specs.Shelving.{shelf}
 use Rattle.cases.specs.Tables.{differing, large, first_differ, table}
+use Rattle.cases.specs.SearchCases.{SearchCase, calls_over, LeadsThere}
 
 -- ---- what a case says
 
@@ -168,12 +167,21 @@ refusals =
 abbrev pub RefusalsStand : Type 0
 RefusalsStand = All Comes refusals
 
+-- histories that reach the limits, and those with one call more
+abbrev pub limits : List SearchCase
+limits =
+    -- 80 voices
+    calls_over large (declares 80) (voices 80) []
+    ∷ calls_over large ((declare 6, refused 11) ∷ declares 80) (voices 80) []
+    -- 120 rows
+    ∷ calls_over large (posts 120 1 ++ declares 1) (short_rows 120) []
+    ∷ calls_over large ((post (first_differ 1), refused 12) ∷ posts 120 1 ++ declares 1) (short_rows 120) []
+    -- 8,192 bytes
+    ∷ calls_over large full_history full_table []
+    ∷ calls_over large ((post (first_differ 1), refused 12) ∷ full_history) full_table []
+    ∷ []
+
 -- The limits can be reached, and not passed.
 pub record LimitsReached : Type 0 where
-  pub voices_80 : Leads shelf large differing (declares 80) (voices 80) []
-  pub voices_81 : Leads shelf large differing ((declare 6, refused 11) ∷ declares 80) (voices 80) []
-  pub rows_120 : Leads shelf large differing (posts 120 1 ++ declares 1) (short_rows 120) []
-  pub rows_121 : Leads shelf large differing ((post (first_differ 1), refused 12) ∷ posts 120 1 ++ declares 1) (short_rows 120) []
-  pub bytes_8192 : Leads shelf large differing full_history full_table []
+  pub histories : All LeadsThere limits
   pub bytes_counted : total_bytes full_table.rows ≡ 8192
-  pub bytes_8198 : Leads shelf large differing ((post (first_differ 1), refused 12) ∷ full_history) full_table []

@@ -1,14 +1,14 @@
 -- Searches from Make on, each of which the checker computes. A set is written as a number: {1,2} is 6, {1,3} is 10, {3,4} is 24. The newest call
 -- stands first; the last three numbers of a table are the nodes opened, those exhausted and the keys lost.
-use Rattle.std.specs.Prelude.{ℕ, List, [], ◌∷◌}
+use Rattle.std.specs.Prelude.{ℕ, List, [], ◌∷◌, All}
 use Rattle.search.specs.Search.{Level, Place}
 use Rattle.search.specs.Search.Place.{fresh, going}
 use Rattle.search.specs.Calls.{Table, Call, Answer}
 use Rattle.search.specs.Calls.Call.{declare, post, solve, read, wipe}
 use Rattle.search.specs.Calls.Answer.{done, refused, found, none, stopped, wrote}
-use Rattle.cases.specs.Shelving.{shelf, lent}
-use Rattle.cases.specs.Leading.{Leads}
-use Rattle.cases.specs.Tables.{differing, large, bare, first_differ, differ_2, differ_3, differ_5, table}
+use Rattle.cases.specs.Tables.{large, first_differ, differ_2, differ_3, differ_5, table}
+use Rattle.cases.specs.Tables.CaseStore.{shelf_of, bare}
+use Rattle.cases.specs.SearchCases.{SearchCase, calls_over, LeadsThere}
 
 -- ---- three voices {1,2} that differ
 
@@ -63,28 +63,38 @@ root_key = 6 ∷ 6 ∷ 24 ∷ 24 ∷ 24 ∷ 1 ∷ 0 ∷ []
 
 -- ---- the cases
 
-pub record SearchesStand : Type 0 where
-  -- three voices have no room at two values; a budget of 2 stops after the first child, and 1 more ends the search with the same counts
-  pub three_large : Leads shelf large differing ((solve 9, none) ∷ three) (three_at Place.none 3 1 0) (three_key ∷ [])
-  pub three_bare : Leads shelf bare differing ((solve 9, none) ∷ three) (three_at Place.none 3 1 1) []
-  pub three_exact : Leads shelf large differing ((solve 3, none) ∷ three) (three_at Place.none 3 1 0) (three_key ∷ [])
-  pub three_stopped : Leads shelf large differing ((solve 2, stopped) ∷ three) (three_at (going three_halfway []) 2 0 0) []
-  pub three_resumed : Leads shelf large differing ((solve 1, none) ∷ (solve 2, stopped) ∷ three) (three_at Place.none 3 1 0) (three_key ∷ [])
-  -- both children of the root have one key: a store that holds it saves the search of the second; room for one key is enough
-  pub five_large : Leads shelf large differing ((solve 9, none) ∷ five) (five_at Place.none 5 2 0) (child_key ∷ root_key ∷ [])
-  pub five_bare : Leads shelf bare differing ((solve 9, none) ∷ five) (five_at Place.none 7 3 3) []
-  pub five_one_key : Leads shelf (lent 8) differing ((solve 9, none) ∷ five) (five_at Place.none 5 2 1) (child_key ∷ [])
-  pub five_no_key : Leads shelf (lent 7) differing ((solve 9, none) ∷ five) (five_at Place.none 7 3 3) []
-  -- the empty table has one placing, of no values
-  pub empty_large : Leads shelf large differing ((solve 9, found []) ∷ []) (table [] [] (Place.found []) 1 0 0) []
-  pub empty_bare : Leads shelf bare differing ((solve 9, found []) ∷ []) (table [] [] (Place.found []) 1 0 0) []
-  pub empty_read : Leads shelf large differing ((read [], wrote 0 []) ∷ (solve 1, found []) ∷ []) (table [] [] (Place.found []) 1 0 0) []
-  -- the least placing of two voices, told again and read with no node more; a declined call alters nothing; another voice, and a wipe, begin again
-  pub two_large : Leads shelf large differing ((solve 9, found (1 ∷ 3 ∷ [])) ∷ two) (two_at (Place.found (1 ∷ 3 ∷ [])) 2 0 0) []
-  pub two_bare : Leads shelf bare differing ((solve 9, found (1 ∷ 3 ∷ [])) ∷ two) (two_at (Place.found (1 ∷ 3 ∷ [])) 2 0 0) []
-  pub two_reads : Leads shelf large differing two_read (two_at (Place.found (1 ∷ 3 ∷ [])) 2 0 0) []
-  pub two_declined : Leads shelf large differing ((declare 0, refused 10) ∷ two_read) (two_at (Place.found (1 ∷ 3 ∷ [])) 2 0 0) []
-  pub two_more : Leads shelf large differing ((declare 6, done) ∷ two_read) (table (10 ∷ 10 ∷ 6 ∷ []) (differ_2 ∷ []) fresh 0 0 0) []
-  pub two_wiped : Leads shelf large differing ((wipe, done) ∷ two_read) (table [] [] fresh 0 0 0) []
-  -- a row more begins the search again and empties the store
-  pub five_again : Leads shelf large differing ((post (first_differ 2), done) ∷ (solve 9, none) ∷ five) (table (6 ∷ 6 ∷ 24 ∷ 24 ∷ 24 ∷ []) (differ_5 ∷ differ_2 ∷ []) fresh 0 0 0) []
+abbrev pub searches : List SearchCase
+searches =
+    -- three voices have no room at two values: over a large shelf, and over the bare store
+    calls_over large ((solve 9, none) ∷ three) (three_at Place.none 3 1 0) (three_key ∷ [])
+    ∷ calls_over bare ((solve 9, none) ∷ three) (three_at Place.none 3 1 1) []
+    -- a budget of just as many nodes ends the search; one of 2 stops after the first child, and 1 more ends it with the same counts
+    ∷ calls_over large ((solve 3, none) ∷ three) (three_at Place.none 3 1 0) (three_key ∷ [])
+    ∷ calls_over large ((solve 2, stopped) ∷ three) (three_at (going three_halfway []) 2 0 0) []
+    ∷ calls_over large ((solve 1, none) ∷ (solve 2, stopped) ∷ three) (three_at Place.none 3 1 0) (three_key ∷ [])
+    -- both children of the root have one key: a store that holds it saves the search of the second
+    ∷ calls_over large ((solve 9, none) ∷ five) (five_at Place.none 5 2 0) (child_key ∷ root_key ∷ [])
+    ∷ calls_over bare ((solve 9, none) ∷ five) (five_at Place.none 7 3 3) []
+    -- room for one key is enough, and a word less is not
+    ∷ calls_over (shelf_of 8) ((solve 9, none) ∷ five) (five_at Place.none 5 2 1) (child_key ∷ [])
+    ∷ calls_over (shelf_of 7) ((solve 9, none) ∷ five) (five_at Place.none 7 3 3) []
+    -- the empty table has one placing, of no values, and it can be read
+    ∷ calls_over large ((solve 9, found []) ∷ []) (table [] [] (Place.found []) 1 0 0) []
+    ∷ calls_over bare ((solve 9, found []) ∷ []) (table [] [] (Place.found []) 1 0 0) []
+    ∷ calls_over large ((read [], wrote 0 []) ∷ (solve 1, found []) ∷ []) (table [] [] (Place.found []) 1 0 0) []
+    -- the least placing of two voices: over a large shelf, and over the bare store
+    ∷ calls_over large ((solve 9, found (1 ∷ 3 ∷ [])) ∷ two) (two_at (Place.found (1 ∷ 3 ∷ [])) 2 0 0) []
+    ∷ calls_over bare ((solve 9, found (1 ∷ 3 ∷ [])) ∷ two) (two_at (Place.found (1 ∷ 3 ∷ [])) 2 0 0) []
+    -- it is told again and read with no node more, and a declined call alters nothing
+    ∷ calls_over large two_read (two_at (Place.found (1 ∷ 3 ∷ [])) 2 0 0) []
+    ∷ calls_over large ((declare 0, refused 10) ∷ two_read) (two_at (Place.found (1 ∷ 3 ∷ [])) 2 0 0) []
+    -- another voice, and a wipe, begin again
+    ∷ calls_over large ((declare 6, done) ∷ two_read) (table (10 ∷ 10 ∷ 6 ∷ []) (differ_2 ∷ []) fresh 0 0 0) []
+    ∷ calls_over large ((wipe, done) ∷ two_read) (table [] [] fresh 0 0 0) []
+    -- a row more begins the search again and empties the store
+    ∷ calls_over large ((post (first_differ 2), done) ∷ (solve 9, none) ∷ five) (table (6 ∷ 6 ∷ 24 ∷ 24 ∷ 24 ∷ []) (differ_5 ∷ differ_2 ∷ []) fresh 0 0 0) []
+    ∷ []
+
+-- The calls of each case lead to what is written there.
+abbrev pub SearchesStand : Type 0
+SearchesStand = All LeadsThere searches

@@ -13,12 +13,21 @@ use Rattle.cases.specs.Shelving.{lent}
 abbrev pub differing : Meaning
 differing = alone all_different
 
--- a shelf that loses none of the keys below, and the bare store, which loses every key
-abbrev pub large : View
-large = lent 4096
+-- ---- stores
 
-abbrev pub bare : View
-bare = nothing
+-- the store that calls are made over: a shelf that may use so many words, or the bare store, which loses every key
+pub data CaseStore : Type 0 where
+  shelf_of : ℕ → CaseStore
+  bare : CaseStore
+
+-- a shelf that loses none of the keys below
+abbrev pub large : CaseStore
+large = shelf_of 4096
+
+-- the store as Make gets it
+abbrev pub given : CaseStore → View
+given (shelf_of words) = lent words
+given bare = nothing
 
 -- ---- rows
 

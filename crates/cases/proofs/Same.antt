@@ -1,0 +1,141 @@
+-- Tests of what comes out against what is written.
+use Rattle.std.proofs.Common.{◌≡◌, Bool, true, false, ◌&&◌, eqb, int_eq, List, [], ◌∷◌, map, sym, refl, ap, ap₂, ◌∙◌}
+use Rattle.std.proofs.lemmas.Bool.{both_ways, and_parts, eqb-true}
+use Rattle.std.proofs.lemmas.Bool.Decides.{Decides-int_eq}
+use Rattle.std.specs.Prelude.{zip}
+use Rattle.sets.specs.Placings.{same}
+use Rattle.sets.proofs.Lists.{same_is}
+use Rattle.rows.specs.declared.member.Member.{Member}
+use Rattle.rows.specs.Rows.{RowData}
+use Rattle.search.specs.Search.{Level, Place}
+use Rattle.search.specs.Search.Place.{fresh, going}
+use Rattle.search.specs.Calls.{Table, Call, Answer, Judgement}
+use Rattle.search.specs.Calls.Answer.{done, refused, found, none, stopped, wrote}
+use Rattle.search.specs.Calls.Judgement.{passes, declined}
+use Rattle.cases.specs.Leading.{calls_of}
+
+-- ---- lists
+
+abbrev pub same_list : {X : Type 0} → (X → X → Bool) → List X → List X → Bool
+same_list test [] [] = true
+same_list test (x ∷ xs) (y ∷ ys) = test x y && same_list test xs ys
+same_list test xs ys = false
+
+pub same_list_is : {X : Type 0} (test : X → X → Bool) → ((x y : X) → test x y ≡ true → x ≡ y) → (xs ys : List X) → same_list test xs ys ≡ true → xs ≡ ys
+same_list_is test so [] [] e = refl
+same_list_is {X} test so (x ∷ xs) (y ∷ ys) e =
+    let p = and_parts (test x y) (same_list test xs ys) e in
+    ap₂ {C = List X} (λ (a : X) (b : List X). a ∷ b) (so x y p.0) (same_list_is test so xs ys p.1)
+same_list_is test so xs ys e = absurd (both_ways false refl e)
+
+-- ---- judgements and answers
+
+abbrev pub same_judgement : Judgement → Judgement → Bool
+same_judgement passes passes = true
+same_judgement (declined n) (declined k) = eqb n k
+same_judgement x y = false
+
+pub same_judgement_is : (x y : Judgement) → same_judgement x y ≡ true → x ≡ y
+same_judgement_is passes passes e = refl
+same_judgement_is (declined n) (declined k) e = ap declined (eqb-true n k e)
+same_judgement_is x y e = absurd (both_ways false refl e)
+
+abbrev pub same_answer : Answer → Answer → Bool
+same_answer done done = true
+same_answer (refused n) (refused k) = eqb n k
+same_answer (found p) (found q) = same p q
+same_answer none none = true
+same_answer stopped stopped = true
+same_answer (wrote n b) (wrote k d) = eqb n k && same b d
+same_answer x y = false
+
+pub same_answer_is : (x y : Answer) → same_answer x y ≡ true → x ≡ y
+same_answer_is done done e = refl
+same_answer_is (refused n) (refused k) e = ap refused (eqb-true n k e)
+same_answer_is (found p) (found q) e = ap found (same_is p q e)
+same_answer_is none none e = refl
+same_answer_is stopped stopped e = refl
+same_answer_is (wrote n b) (wrote k d) e =
+    let p = and_parts (eqb n k) (same b d) e in ap₂ wrote (eqb-true n k p.0) (same_is b d p.1)
+same_answer_is x y e = absurd (both_ways false refl e)
+
+abbrev pub answers_of : List (Call × Answer) → List Answer
+answers_of h = map (λ x. x.1) h
+
+-- answers to the same calls
+pub same_answers_is : (h k : List (Call × Answer)) → calls_of h ≡ calls_of k → same_list same_answer (answers_of h) (answers_of k) ≡ true → h ≡ k
+same_answers_is h k c e =
+    sym (paired h)
+    ∙ ap₂ {C = List (Call × Answer)} zip c (same_list_is same_answer same_answer_is (answers_of h) (answers_of k) e)
+    ∙ paired k
+  where
+    paired : (h : List (Call × Answer)) → zip (calls_of h) (answers_of h) ≡ h
+    paired [] = refl
+    paired ((c, a) ∷ h) = ap (λ (k : List (Call × Answer)). (c, a) ∷ k) (paired h)
+
+-- ---- tables
+
+abbrev same_member : Member → Member → Bool
+same_member x y = eqb x.voice y.voice && int_eq x.argument y.argument
+
+same_member_is : (x y : Member) → same_member x y ≡ true → x ≡ y
+same_member_is x y e =
+    let p = and_parts (eqb x.voice y.voice) (int_eq x.argument y.argument) e in
+    ap₂ {C = Member} (λ v a. record { voice = v; argument = a }) (eqb-true x.voice y.voice p.0) ((Decides-int_eq x.argument y.argument).0 p.1)
+
+abbrev same_row : RowData → RowData → Bool
+same_row x y = eqb x.letter y.letter && (same x.body y.body && same_list same_member x.members y.members)
+
+same_row_is : (x y : RowData) → same_row x y ≡ true → x ≡ y
+same_row_is x y e =
+    let p = and_parts (eqb x.letter y.letter) (same x.body y.body && same_list same_member x.members y.members) e in
+    let q = and_parts (same x.body y.body) (same_list same_member x.members y.members) p.1 in
+    ap (λ l. record x { letter = l }) (eqb-true x.letter y.letter p.0)
+    ∙ ap₂ {C = RowData} (λ b ms. record { letter = y.letter; body = b; members = ms }) (same_is x.body y.body q.0) (same_list_is same_member same_member_is x.members y.members q.1)
+
+abbrev same_level : Level → Level → Bool
+same_level l k = same l.sets k.sets && (eqb l.voice k.voice && eqb l.left k.left)
+
+same_level_is : (l k : Level) → same_level l k ≡ true → l ≡ k
+same_level_is l k e =
+    let p = and_parts (same l.sets k.sets) (eqb l.voice k.voice && eqb l.left k.left) e in
+    let q = and_parts (eqb l.voice k.voice) (eqb l.left k.left) p.1 in
+    ap (λ s. record l { sets = s }) (same_is l.sets k.sets p.0)
+    ∙ ap₂ {C = Level} (λ v n. record { sets = k.sets; voice = v; left = n }) (eqb-true l.voice k.voice q.0) (eqb-true l.left k.left q.1)
+
+abbrev same_place : Place → Place → Bool
+same_place fresh fresh = true
+same_place (going l ls) (going k ks) = same_level l k && same_list same_level ls ks
+same_place (Place.found p) (Place.found q) = same p q
+same_place Place.none Place.none = true
+same_place x y = false
+
+same_place_is : (x y : Place) → same_place x y ≡ true → x ≡ y
+same_place_is fresh fresh e = refl
+same_place_is (going l ls) (going k ks) e =
+    let p = and_parts (same_level l k) (same_list same_level ls ks) e in
+    ap₂ going (same_level_is l k p.0) (same_list_is same_level same_level_is ls ks p.1)
+same_place_is (Place.found p) (Place.found q) e = ap Place.found (same_is p q e)
+same_place_is Place.none Place.none e = refl
+same_place_is x y e = absurd (both_ways false refl e)
+
+-- what is given of a table, and what the search has come to
+abbrev same_given : Table → Table → Bool
+same_given t u = same t.voices u.voices && same_list same_row t.rows u.rows
+
+abbrev same_counts : Table → Table → Bool
+same_counts t u = eqb t.opened u.opened && (eqb t.exhausted u.exhausted && eqb t.lost u.lost)
+
+abbrev pub same_table : Table → Table → Bool
+same_table t u = same_given t u && (same_place t.place u.place && same_counts t u)
+
+pub same_table_is : (t u : Table) → same_table t u ≡ true → t ≡ u
+same_table_is t u e =
+    let p = and_parts (same_given t u) (same_place t.place u.place && same_counts t u) e in
+    let g = and_parts (same t.voices u.voices) (same_list same_row t.rows u.rows) p.0 in
+    let q = and_parts (same_place t.place u.place) (same_counts t u) p.1 in
+    let n = and_parts (eqb t.opened u.opened) (eqb t.exhausted u.exhausted && eqb t.lost u.lost) q.1 in
+    let k = and_parts (eqb t.exhausted u.exhausted) (eqb t.lost u.lost) n.1 in
+    ap₂ {C = Table} (λ v r. record t { voices = v; rows = r }) (same_is t.voices u.voices g.0) (same_list_is same_row same_row_is t.rows u.rows g.1)
+    ∙ ap₂ {C = Table} (λ p o. record t { voices = u.voices; rows = u.rows; place = p; opened = o }) (same_place_is t.place u.place q.0) (eqb-true t.opened u.opened n.0)
+    ∙ ap₂ {C = Table} (λ e l. record u { exhausted = e; lost = l }) (eqb-true t.exhausted u.exhausted k.0) (eqb-true t.lost u.lost k.1)
