@@ -1,5 +1,5 @@
 -- The cases, by computation.
-use Rattle.std.proofs.Common.{◌≡◌, Bool, true, ◌&&◌, eqb, length, refl}
+use Rattle.std.proofs.Common.{◌≡◌, ℕ, Bool, true, ◌&&◌, eqb, List, [], length, refl}
 use Rattle.std.proofs.lemmas.Bool.{and_parts, eqb-true}
 use Rattle.std.specs.List.{list_all}
 use lib.Count.{ones, count_trailing_zeros}
@@ -10,40 +10,56 @@ use Rattle.narrowing.specs.Shared.{cut}
 use Rattle.rows.specs.Bytes.{total_bytes}
 use Rattle.search.specs.Calls.{judged}
 use Rattle.kinds.proofs.Computed.{all_by}
-use Rattle.cases.specs.Shelving.{shelf}
-use Rattle.cases.specs.Leading.{calls_of}
-use Rattle.cases.specs.Tables.{differing, given}
-use Rattle.cases.specs.SearchCases.{SearchCase, LeadsThere}
+use Rattle.stores.specs.Behaviours.{Behaviour, Decided}
+use Rattle.stores.specs.Bare as stores
+use Rattle.stores.specs.ShelfLaws.{shelf, shelf_decided}
+use Rattle.search.specs.Histories.{calls_of}
+use Rattle.search.proofs.OutcomeFacts.{Played, replay}
+use Rattle.cases.specs.Tables.{CaseStore, differing}
+use Rattle.cases.specs.Tables.CaseStore.{shelf_of, bare}
+use Rattle.cases.specs.SearchCases.{SearchCase, Leads, LeadsOver, LeadsThere}
 use Rattle.cases.specs.Searches.{searches, SearchesStand}
 use Rattle.cases.specs.Refusals.{Case, Comes, refusals, RefusalsStand, limits, LimitsReached}
 use Rattle.cases.specs.Refusals.Case.{judgement_of, bytes_of, length_of}
 use Rattle.cases.proofs.Same.{same_list, same_list_is, same_judgement, same_judgement_is, same_answer, answers_of, same_answers_is, same_table, same_table_is}
-use Rattle.cases.proofs.Playing.{Played, formed, replay, replay_calls, led}
+use Rattle.cases.proofs.Playing.{formed, replay_calls, led}
 
 -- ---- searches
 
--- what has come of a case's calls is what is written there
-abbrev agrees : SearchCase → Played → Bool
-agrees c p = same_list same_answer (answers_of p.calls) (answers_of c.calls) && (same_table p.table c.table && same_list same p.view.held c.keys)
+-- what has come of a case's calls is what is written there, with these keys held
+abbrev agrees : {S : Type 0} → SearchCase → Played S → List (List ℕ) → Bool
+agrees c p held = same_list same_answer (answers_of p.calls) (answers_of c.calls) && (same_table p.table c.table && same_list same held c.keys)
 
--- what comes of them
-abbrev played : SearchCase → Played
-played c = replay shelf (given c.store) c.bank (calls_of c.calls)
+module _ (store : Behaviour) (d : Decided store) (g : store.State) where
+  -- what comes of them
+  abbrev played : SearchCase → Played store.State
+  played c = replay store d c.bank g (calls_of c.calls)
+
+  abbrev leads_by : SearchCase → Bool
+  leads_by c = list_all formed (calls_of c.calls) && agrees c (played c) (store.view (played c).state).held
+
+  leads_by_so : (c : SearchCase) → leads_by c ≡ true → Leads store g c
+  leads_by_so c e =
+      let p : Played store.State = played c in
+      let held = (store.view p.state).held in
+      let f = and_parts (list_all formed (calls_of c.calls)) (agrees c p held) e in
+      let a = and_parts (same_list same_answer (answers_of p.calls) (answers_of c.calls)) (same_table p.table c.table && same_list same held c.keys) f.1 in
+      let t = and_parts (same_table p.table c.table) (same_list same held c.keys) a.1 in
+      led store d g c f.0 (same_answers_is p.calls c.calls (replay_calls store d c.bank g (calls_of c.calls)) a.0) (same_table_is p.table c.table t.0) (same_list_is same same_is held c.keys t.1)
+
+abbrev leads_over : CaseStore → SearchCase → Bool
+leads_over (shelf_of words) c = leads_by shelf shelf_decided (record { held = []; room = words }) c
+leads_over bare c = leads_by stores.bare stores.bare_decided tt c
+
+leads_over_so : (s : CaseStore) (c : SearchCase) → leads_over s c ≡ true → LeadsOver s c
+leads_over_so (shelf_of words) c e = leads_by_so shelf shelf_decided (record { held = []; room = words }) c e
+leads_over_so bare c e = leads_by_so stores.bare stores.bare_decided tt c e
 
 abbrev leads : SearchCase → Bool
-leads c = list_all formed (calls_of c.calls) && agrees c (played c)
+leads c = leads_over c.store c
 
 leads_so : (c : SearchCase) → leads c ≡ true → LeadsThere c
-leads_so c e =
-    let p : Played = played c in
-    let f = and_parts (list_all formed (calls_of c.calls)) (agrees c p) e in
-    let a = and_parts (same_list same_answer (answers_of p.calls) (answers_of c.calls)) (same_table p.table c.table && same_list same p.view.held c.keys) f.1 in
-    let t = and_parts (same_table p.table c.table) (same_list same p.view.held c.keys) a.1 in
-    led shelf (given c.store) c.bank c.calls c.table c.keys
-    f.0
-    (same_answers_is p.calls c.calls (replay_calls shelf (given c.store) c.bank (calls_of c.calls)) a.0)
-    (same_table_is p.table c.table t.0)
-    (same_list_is same same_is p.view.held c.keys t.1)
+leads_so c e = leads_over_so c.store c e
 
 all_lead : list_all leads searches ≡ true
 unfolding ones count_trailing_zeros mask sift cut

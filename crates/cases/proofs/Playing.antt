@@ -1,16 +1,16 @@
 -- Histories over one store, as a function of the calls.
-use Rattle.std.proofs.Common.{◌≡◌, ℕ, zero, suc, Bool, true, ltb, List, [], ◌∷◌, sym, refl, ap, ap₂, ◌∙◌, subst, arith}
+use Rattle.std.proofs.Common.{◌≡◌, ℕ, zero, suc, Bool, true, ltb, List, [], ◌∷◌, sym, refl, ap, ◌∙◌, subst, subst₂, arith}
 use Rattle.std.proofs.lemmas.Bool.{and_parts, ltb-true}
 use Rattle.std.specs.List.{list_all}
 use Rattle.rows.specs.Rows.{Meaning}
 use Rattle.rows.specs.Bytes.{Bytes}
-use Rattle.stores.specs.Stores.{View}
-use Rattle.search.specs.Calls.{Table, empty, Call, Answer, Formed, judged, Does}
+use Rattle.stores.specs.Behaviours.{Behaviour, Decided}
+use Rattle.search.specs.Calls.{Table, Call, Answer, Formed, judged, Does}
 use Rattle.search.specs.Calls.Call.{declare, post, solve, read, wipe}
-use Rattle.search.specs.Histories.{History}
-use Rattle.search.specs.Behaviours.{Behaviour, DoesBy, Outcome}
-use Rattle.search.proofs.OutcomeFacts.{comes, does_is, one_outcome}
-use Rattle.cases.specs.Leading.{HistoryBy, Leads, calls_of}
+use Rattle.search.specs.Histories.{History, calls_of}
+use Rattle.search.specs.Behaviours.{Outcome}
+use Rattle.search.proofs.OutcomeFacts.{comes, does_is, one_outcome, Played, play, replay}
+use Rattle.cases.specs.SearchCases.{SearchCase, Leads}
 
 -- ---- what a caller can hand over, by computation
 
@@ -33,60 +33,41 @@ formed_so (solve b) h = tt
 formed_so (read bs) h = small bs h
 formed_so wipe h = tt
 
--- ---- playing calls, the newest first
+-- ---- what is played is a history
 
--- what a history has come to
-pub record Played : Type 0 where
-  pub calls : List (Call × Answer)
-  pub table : Table
-  pub view : View
+module _ (store : Behaviour) (d : Decided store) (m : Meaning) (g : store.State) where
+  -- there is a history that comes to this
+  abbrev Real : Played store.State → Type 0
+  Real p = History store m g p.calls p.table p.state
 
-abbrev pub noted : Call → List (Call × Answer) → Answer × Table × View → Played
-noted c h r = record { calls = (c, r.0) ∷ h; table = r.1; view = r.2 }
-
-module _ (s : Behaviour) (g : View) (m : Meaning) where
-  -- one call more
-  abbrev pub play : Call → Played → Played
-  play c p = noted c p.calls (comes s m p.table p.view c (judged m p.table c))
-
-  abbrev pub replay : List Call → Played
-  replay [] = record { calls = []; table = empty; view = s.emptied g }
-  replay (c ∷ cs) = play c (replay cs)
-
-  -- ---- what is played is a history
-
-  -- there is a history that comes to this, over the store s
-  abbrev Real : Played → Type 0
-  Real p = (H : History m p.calls p.table p.view) × HistoryBy s g H
-
-  does_so : (t : Table) (v : View) (c : Call) (r : Answer × Table × View) → comes s m t v c (judged m t c) ≡ r
-      → (D : Does m t v c r.0 r.1 r.2) × DoesBy s D
+  does_so : (t : Table) (v : store.State) (c : Call) (r : Answer × Table × store.State) → comes store d m t v c (judged m t c) ≡ r → Does store m t v c r.0 r.1 r.2
   does_so t v c r e =
-      let o : Outcome s m t v c = (one_outcome s m t v c).0 in
-      subst (λ (x : Answer × Table × View). (D : Does m t v c x.0 x.1 x.2) × DoesBy s D) (sym (does_is s m o.does o.by) ∙ e) (o.does, o.by)
+      let o : Outcome store m t v c = (one_outcome store d m t v c).0 in
+      subst (λ (x : Answer × Table × store.State). Does store m t v c x.0 x.1 x.2) (sym (does_is store d m o.does) ∙ e) o.does
 
-  play_real : (c : Call) (p : Played) → Formed c → Real p → Real (play c p)
+  play_real : (c : Call) (p : Played store.State) → Formed c → Real p → Real (play store d m g c p)
   play_real c p f h =
-      let r = comes s m p.table p.view c (judged m p.table c) in
-      let d = does_so p.table p.view c r refl in
-      (History.then p.calls p.table r.1 p.view r.2 c r.0 h.0 f d.0, (h.1, d.1))
+      let r = comes store d m p.table p.state c (judged m p.table c) in
+      History.then p.calls p.table r.1 p.state r.2 c r.0 h f (does_so p.table p.state c r refl)
 
-  replay_real : (cs : List Call) → list_all formed cs ≡ true → Real (replay cs)
-  replay_real [] f = (History.made (s.emptied g) (s.empties g).empty, refl)
+  replay_real : (cs : List Call) → list_all formed cs ≡ true → Real (replay store d m g cs)
+  replay_real [] f = History.made (d.emptied g) (d.empties g)
   replay_real (c ∷ cs) f =
-      let fs = and_parts (formed c) (list_all formed cs) f in play_real c (replay cs) (formed_so c fs.0) (replay_real cs fs.1)
+      let fs = and_parts (formed c) (list_all formed cs) f in play_real c (replay store d m g cs) (formed_so c fs.0) (replay_real cs fs.1)
 
   -- the calls of a history, played, are these calls
-  pub replay_calls : (cs : List Call) → calls_of (replay cs).calls ≡ cs
+  pub replay_calls : (cs : List Call) → calls_of (replay store d m g cs).calls ≡ cs
   replay_calls [] = refl
   replay_calls (c ∷ cs) = ap (λ (x : List Call). c ∷ x) (replay_calls cs)
 
-  -- a history whose calls, played, have these answers and come to this table and these keys
-  pub led : (h : List (Call × Answer)) (t : Table) (keys : List (List ℕ)) → list_all formed (calls_of h) ≡ true
-      → (replay (calls_of h)).calls ≡ h → (replay (calls_of h)).table ≡ t → (replay (calls_of h)).view.held ≡ keys → Leads s g m h t keys
-  led h t keys f a b k =
-      let v : View = (replay (calls_of h)).view in
-      let e : replay (calls_of h) ≡ record { calls = h; table = t; view = v } =
-      ap₂ {C = Played} (λ (x : List (Call × Answer)) (y : Table). record { calls = x; table = y; view = v }) a b in
-      let x : Real (record { calls = h; table = t; view = v }) = subst Real e (replay_real (calls_of h) f) in
-      record { view = v; holds = k; history = x.0; by = x.1 }
+-- a history whose calls, played, have these answers and come to this table and these keys
+pub led : (store : Behaviour) (d : Decided store) (g : store.State) (c : SearchCase) → list_all formed (calls_of c.calls) ≡ true
+    → (replay store d c.bank g (calls_of c.calls)).calls ≡ c.calls → (replay store d c.bank g (calls_of c.calls)).table ≡ c.table
+    → (store.view (replay store d c.bank g (calls_of c.calls)).state).held ≡ c.keys → Leads store g c
+led store d g c f a b k =
+    let p = replay store d c.bank g (calls_of c.calls) in
+    record {
+      state = p.state;
+      history = subst₂ (λ (x : List (Call × Answer)) (y : Table). History store c.bank g x y p.state) a b (replay_real store d c.bank g (calls_of c.calls) f);
+      holds = k;
+    }

@@ -12,7 +12,7 @@ use Rattle.search.specs.Search.Place.{fresh, going}
 use Rattle.search.specs.Calls.{Table, Call, Answer, Judgement}
 use Rattle.search.specs.Calls.Answer.{done, refused, found, none, stopped, wrote}
 use Rattle.search.specs.Calls.Judgement.{passes, declined}
-use Rattle.cases.specs.Leading.{calls_of}
+use Rattle.search.specs.Histories.{calls_of}
 
 -- ---- lists
 

@@ -1,5 +1,3 @@
-pub mod Shelving
-pub mod Leading
 pub mod Tables
 pub mod SearchCases
 pub mod Searches

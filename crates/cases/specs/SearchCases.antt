@@ -1,10 +1,13 @@
 -- What a case of a search says.
-use Rattle.std.specs.Prelude.{ℕ, List}
+use Rattle.std.specs.Prelude.{◌≡◌, ℕ, List, []}
 use Rattle.rows.specs.Rows.{Meaning}
+use Rattle.stores.specs.Behaviours.{Behaviour}
+use Rattle.stores.specs.Bare as stores
+use Rattle.stores.specs.ShelfLaws.{shelf}
 use Rattle.search.specs.Calls.{Table, Call, Answer}
-use Rattle.cases.specs.Shelving.{shelf}
-use Rattle.cases.specs.Leading.{Leads}
-use Rattle.cases.specs.Tables.{CaseStore, differing, given}
+use Rattle.search.specs.Histories.{History}
+use Rattle.cases.specs.Tables.{CaseStore, differing}
+use Rattle.cases.specs.Tables.CaseStore.{shelf_of, bare}
 
 -- calls over a store, of rows of a bank, each with its answer, the newest first; and the table and the keys that are to come of them
 pub record SearchCase : Type 0 where
@@ -18,6 +21,17 @@ pub record SearchCase : Type 0 where
 abbrev pub calls_over : CaseStore → List (Call × Answer) → Table → List (List ℕ) → SearchCase
 calls_over store calls table keys = record { store = store; bank = differing; calls = calls; table = table; keys = keys }
 
--- so answered, the calls lead from Make to that table and those keys
+-- over a store with this behaviour that Make got in the state g, the calls, so answered, lead to this table, and the store then holds these keys
+pub record Leads (b : Behaviour) (g : b.State) (c : SearchCase) : Type 0 where
+  pub state : b.State
+  pub history : History b c.bank g c.calls c.table state
+  pub holds : (b.view state).held ≡ c.keys
+
+-- a shelf that may use so many words and holds no key, or the bare store
+abbrev pub LeadsOver : CaseStore → SearchCase → Type 0
+LeadsOver (shelf_of words) c = Leads shelf (record { held = []; room = words }) c
+LeadsOver bare c = Leads stores.bare tt c
+
+-- so the case comes to what is written there
 abbrev pub LeadsThere : SearchCase → Type 0
-LeadsThere c = Leads shelf (given c.store) c.bank c.calls c.table c.keys
+LeadsThere c = LeadsOver c.store c

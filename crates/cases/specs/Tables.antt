@@ -5,9 +5,6 @@ use Rattle.rows.specs.Rows.{RowData, Meaning, alone}
 use Rattle.all_different.specs.Differing.{all_different}
 use Rattle.search.specs.Search.{Place}
 use Rattle.search.specs.Calls.{Table}
-use Rattle.stores.specs.Stores.{View}
-use Rattle.stores.specs.Bare.{nothing}
-use Rattle.cases.specs.Shelving.{lent}
 
 -- a bank of one kind, A
 abbrev pub differing : Meaning
@@ -23,11 +20,6 @@ pub data CaseStore : Type 0 where
 -- a shelf that loses none of the keys below
 abbrev pub large : CaseStore
 large = shelf_of 4096
-
--- the store as Make gets it
-abbrev pub given : CaseStore → View
-given (shelf_of words) = lent words
-given bare = nothing
 
 -- ---- rows
 

@@ -1,20 +1,8 @@
 // Searches and refusals, worked through.
 #![tactic(auto)]
 
-ghost use Rattle.cases.specs.Shelving.{StoresBehave};
-ghost use Rattle.cases.specs.Leading.{CallsDecide};
 ghost use Rattle.cases.specs.Worked.{WorkedStand};
 ghost use Rattle.cases.specs.Refusals.{RefusalsStand, LimitsReached};
-
-// The two stores behave as the cases take it.
-pub fn stores_behave()
-    ensures { StoresBehave }
-{}
-
-// Over such a store the calls decide the answers and the table.
-pub fn calls_decide()
-    ensures { CallsDecide }
-{}
 
 // The worked cases, of turns, traces and searches, come to what is written there.
 pub fn worked_cases_stand()
