@@ -12,7 +12,8 @@ use Rattle.search.specs.Calls.{judged}
 use Rattle.kinds.proofs.Computed.{all_by}
 use Rattle.stores.specs.Behaviours.{Behaviour, Decided}
 use Rattle.stores.specs.Bare as stores
-use Rattle.stores.specs.ShelfLaws.{shelf, shelf_decided}
+use Rattle.stores.specs.ShelfLaws.{shelf}
+use Rattle.stores.proofs.Deciding.{bare_decided, shelf_decided}
 use Rattle.search.specs.Histories.{calls_of}
 use Rattle.search.proofs.OutcomeFacts.{Played, replay}
 use Rattle.cases.specs.Tables.{CaseStore, differing}
@@ -49,11 +50,11 @@ module _ (store : Behaviour) (d : Decided store) (g : store.State) where
 
 abbrev leads_over : CaseStore → SearchCase → Bool
 leads_over (shelf_of words) c = leads_by shelf shelf_decided (record { held = []; room = words }) c
-leads_over bare c = leads_by stores.bare stores.bare_decided tt c
+leads_over bare c = leads_by stores.bare bare_decided tt c
 
 leads_over_so : (s : CaseStore) (c : SearchCase) → leads_over s c ≡ true → LeadsOver s c
 leads_over_so (shelf_of words) c e = leads_by_so shelf shelf_decided (record { held = []; room = words }) c e
-leads_over_so bare c e = leads_by_so stores.bare stores.bare_decided tt c e
+leads_over_so bare c e = leads_by_so stores.bare bare_decided tt c e
 
 abbrev leads : SearchCase → Bool
 leads c = leads_over c.store c

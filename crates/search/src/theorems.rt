@@ -95,8 +95,8 @@ pub fn one_history<S: Behaves>()
 
 // The shelf and the bare store are such stores.
 pub fn shelf_and_bare_decide()
-    ensures shelf { OneOutcome shelf × OneHistory shelf }
-    ensures bare { OneOutcome bare × OneHistory bare }
+    ensures shelf { Decided shelf × OneOutcome shelf × OneHistory shelf }
+    ensures bare { Decided bare × OneOutcome bare × OneHistory bare }
 {}
 
 // Stores that hold the same keys and lose none give the same answers and counts.

@@ -1,3 +1,4 @@
 pub mod Writing
 pub mod Shelving
 pub mod Keeping
+pub mod Deciding

@@ -3,7 +3,7 @@ use Rattle.std.specs.Prelude.{◌≡◌, ℕ, zero, suc, List, [], length, false
 use Rattle.std.proofs.Common.{ltb, leb, arith}
 use Rattle.std.proofs.lemmas.Bool.{and_right, lt-leb}
 use Rattle.stores.specs.Stores.{View, Emptied, Keeps, fits}
-use Rattle.stores.specs.Behaviours.{Behaviour, Decided}
+use Rattle.stores.specs.Behaviours.{Behaviour}
 use Rattle.stores.specs.declared.store.Stored.{Stored}
 use Rattle.stores.specs.declared.store.Stored.TheVariants.{Kept, Lost}
 
@@ -31,16 +31,4 @@ bare = record {
   keeps = bare_keeps;
   empties_lawfully = λ s t h. refl;
   keeps_lawfully = bare_keeps_lawfully;
-}
-
-abbrev pub bare_decided : Decided bare
-bare_decided = record {
-  emptied = λ s. tt;
-  answer = λ s k. Lost;
-  after = λ s k. tt;
-  empties = λ s. tt;
-  keeps = λ s k. refl;
-  emptied_only = λ s t h. refl;
-  answer_only = λ s t k a h. h;
-  after_only = λ s t k a h. refl;
 }

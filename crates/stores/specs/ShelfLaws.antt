@@ -1,4 +1,4 @@
--- The shelf does only what any store may do, and nothing of it is open.
+-- The shelf does only what any store may do.
 use Rattle.std.specs.Prelude.{◌≡◌, ℕ, Bool, true, false, not, ◌&&◌, ◌||◌, cond, List, [], ◌∷◌, ◌++◌, length, refl}
 use Rattle.std.proofs.Common.{ap, ap₂, sym, ◌∙◌, subst, inl, inr}
 use Rattle.std.proofs.lemmas.List.{length-append}
@@ -6,7 +6,7 @@ use Rattle.std.proofs.lemmas.Bool.{or_right, or_parts, and_parts, cases_Bool, bo
 use Rattle.sets.specs.Placings.{same}
 use Rattle.sets.proofs.Lists.{same_is, same_self}
 use Rattle.stores.specs.Stores.{View, Emptied, Joined, Keeps, member, distinct_keys, fits}
-use Rattle.stores.specs.Behaviours.{Behaviour, Decided}
+use Rattle.stores.specs.Behaviours.{Behaviour}
 use Rattle.stores.specs.Shelves.{ShelfState, shelf_view, shelf_emptied, shelf_answer, shelf_after}
 use Rattle.stores.specs.declared.store.Stored.{Stored}
 use Rattle.stores.specs.declared.store.Stored.TheVariants.{Kept, Lost}
@@ -66,16 +66,4 @@ shelf = record {
   keeps = λ s k a t. (a ≡ shelf_answer s k) × (t ≡ shelf_after s k);
   empties_lawfully = shelf_empties_lawfully;
   keeps_lawfully = shelf_keeps_lawfully;
-}
-
-abbrev pub shelf_decided : Decided shelf
-shelf_decided = record {
-  emptied = shelf_emptied;
-  answer = shelf_answer;
-  after = shelf_after;
-  empties = λ s. refl;
-  keeps = λ s k. (refl, refl);
-  emptied_only = λ s t h. h;
-  answer_only = λ s t k a h. h.0;
-  after_only = λ s t k a h. h.1;
 }

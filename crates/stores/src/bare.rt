@@ -23,6 +23,7 @@ impl Store for Bare {
         ensures holds_none { IsTrue result → ((bare.view tt).held ≡ []) }
         ensures value { result ≡ true }
     {
+        // it never holds one
         true
     }
 
