@@ -1,5 +1,5 @@
 // A kind that keeps what the rules ask of a kind, and no more: it says yes to data that are no row; there, and where a set is empty, its turn takes values out
-// and denies it, and more voices matter to it. And a table over it.
+// and denies it, and more voices matter to it. And a store that holds the newest key alone. A table is solved over each.
 #![tactic(auto)]
 
 ghost use Rattle.std.specs.Prelude.{◌≡◌, true, false, length, refl};
@@ -24,6 +24,8 @@ use rows::trace::Trace;
 use search::propagation::has_empty;
 use sets::ValueSet;
 use stores::store::Store;
+
+pub mod latest;
 
 // Whether nothing is asked of a kind: the data are no row, since they have no members, or some set is empty.
 fn is_unasked(row: &Row, sets: &[ValueSet]) -> bool
@@ -87,7 +89,7 @@ pub fn freedom_used()
 
 // Opens five nodes at most of a table's search: what is said of it is what is said over any bank.
 pub fn solve<S: Store>(table: &mut Table<Alone<Loose>, S>) -> Result<Outcome, Refusal>
-    ensures { CallDone (alone loose) S.Store.view table.old (Call.solve 5) (solve_answer result (found_in table.new)) table.new }
+    ensures { CallDone table.old (Call.solve 5) (solve_answer result (found_in table.new)) table.new }
 {
     table.solve(5)
 }
