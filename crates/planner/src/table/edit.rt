@@ -17,7 +17,7 @@ impl<B: Bank, S: Store> Table<B, S> {
     pub fn declare(&mut self, set: ValueSet) -> Result<(), Refusal>
         ensures does { CallDone self.old (Call.declare set) (done_answer result) self.new }
         ensures lasts { CallLasts self.old (Call.declare set) (done_answer result) self.new }
-        ensures declined { OnErr result (self.new.store ≡ self.old.store) }
+        ensures declined { OnErr result (self.new ≡ self.old) }
     {
         if set == 0 {
             return Err(Refusal::EmptySet);

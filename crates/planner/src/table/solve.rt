@@ -1,6 +1,6 @@
 // A table searched.
 ghost use Rattle.std.specs.Prelude.{◌≡◌, OnErr};
-ghost use Rattle.search.specs.Calls.{Call};
+ghost use Rattle.search.specs.Calls.{Call, over};
 ghost use Rattle.planner.specs.Shown.{model, found_in, CallDone, CallLasts, solve_answer};
 
 use crate::refusal::Refusal;
@@ -19,15 +19,15 @@ impl<B: Bank, S: Store> Table<B, S> {
     pub fn solve(&mut self, budget: u64) -> Result<Outcome, Refusal>
         ensures does { CallDone self.old (Call.solve budget) (solve_answer result (found_in self.new)) self.new }
         ensures lasts { CallLasts self.old (Call.solve budget) (solve_answer result (found_in self.new)) self.new }
-        ensures declined { OnErr result (self.new.store ≡ self.old.store) }
+        ensures declined { OnErr result (self.new ≡ self.old) }
     {
         if budget == 0 || budget > MOST_BUDGET {
             return Err(Refusal::BudgetRange);
         }
-        if self.search.is_over() {
+        if self.is_over() {
             return Ok(self.search.outcome());
         }
-        if self.search.opened() + budget > MOST_OPENED {
+        if self.opened() + budget > MOST_OPENED {
             return Err(Refusal::NodesSpent);
         }
         self.search.run::<B, S>(
@@ -37,6 +37,13 @@ impl<B: Bank, S: Store> Table<B, S> {
             &mut self.store,
         );
         Ok(self.search.outcome())
+    }
+
+    // Whether the search is over.
+    fn is_over(&self) -> bool
+        ensures { result ≡ over (model self.now 0).place }
+    {
+        self.search.is_over()
     }
 
     // How many nodes the search has opened.
