@@ -1,5 +1,5 @@
 -- What a call does, from what its code leaves; and what then lasts over whole histories.
-use Rattle.std.proofs.Common.{◌≡◌, ℕ, ◌+◌, false, ◌⊎◌, List, [], ◌∷◌, ◌++◌, length, drop, Ok, Err, Result, OnErr, vec_items, sym, refl, ap, ◌∙◌, subst, inl, inr}
+use Rattle.std.proofs.Common.{◌≡◌, ℕ, ◌+◌, ◌≤◌, false, ◌⊎◌, List, [], ◌∷◌, ◌++◌, length, drop, Ok, Err, Result, OnErr, vec_items, sym, refl, ap, ◌∙◌, subst, inl, inr, arith}
 use Rattle.std.proofs.lemmas.List.{length-map}
 use Rattle.sets.specs.Sets.{least}
 use Rattle.sets.specs.Placings.{values}
@@ -12,6 +12,8 @@ use Rattle.search.specs.Search.Place.{fresh, going, found, none}
 use Rattle.search.specs.Calls.{Table, begun, Call, Answer, Formed, Judgement, judged, is_found, result, says, Does}
 use Rattle.search.specs.Calls.Call.{declare, post, solve, read, wipe}
 use Rattle.search.specs.Histories.{History}
+use Rattle.search.proofs.AnyStore.{goes_any}
+use Rattle.search.proofs.AnswerFacts.{goes_kept}
 use Rattle.search.proofs.OverEvery.{search_stands, answers_stand, reads_stand}
 use Rattle.engine.specs.declared.level.End.{End}
 use Rattle.engine.specs.declared.level.End.TheVariants.{Fresh, Found, Exhausted}
@@ -119,6 +121,14 @@ solves_by st m voices rows s s' v w b o e f r =
       does = λ j. subst (λ (x : Answer). Does st m (table_of voices rows s j) v (solve b) x (table_of voices rows s' (j + r.lost)) w) (sym a)
           (Does.solves b (table_of voices rows s' (j + r.lost)) w (f j) (r.solved j));
     }
+
+-- no fewer nodes are opened than before, and at most as many more as the budget says
+pub opens_within : (st : Behaviour) {m : Meaning} {b : ℕ} {t : ℕ → Table} {v : st.State} {u : ℕ → Table} {w : st.State} → (r : Runs st m b t v u w)
+    → ((t 0).opened ≤ (u (0 + r.lost)).opened) × ((u (0 + r.lost)).opened ≤ (t 0).opened + b)
+opens_within st {m} r =
+    let s = r.solved 0 in
+    let k = goes_kept (goes_any st m s.goes) in
+    (omega (arith, k.opened), omega (arith, k.opened, s.inside))
 
 -- ---- what was found
 

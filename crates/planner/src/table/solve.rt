@@ -1,5 +1,5 @@
 // A table searched.
-ghost use Rattle.std.specs.Prelude.{◌≡◌, OnErr};
+ghost use Rattle.std.specs.Prelude.{◌≡◌, ◌+◌, ◌≤◌, OnErr};
 ghost use Rattle.search.specs.Calls.{Call, over};
 ghost use Rattle.planner.specs.Shown.{model, found_in, CallDone, CallLasts, solve_answer};
 
@@ -20,6 +20,8 @@ impl<B: Bank, S: Store> Table<B, S> {
         ensures does { CallDone self.old (Call.solve budget) (solve_answer result (found_in self.new)) self.new }
         ensures lasts { CallLasts self.old (Call.solve budget) (solve_answer result (found_in self.new)) self.new }
         ensures declined { OnErr result (self.new ≡ self.old) }
+        ensures onward { (model self.old 0).opened ≤ (model self.new 0).opened }
+        ensures budget { (model self.new 0).opened ≤ (model self.old 0).opened + budget }
     {
         if budget == 0 || budget > MOST_BUDGET {
             return Err(Refusal::BudgetRange);
