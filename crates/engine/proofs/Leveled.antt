@@ -5,7 +5,7 @@ use Rattle.std.proofs.lemmas.Bool.{cases_lt, ne_eqb, eqb-false}
 use Rattle.sets.specs.Sets.{least, only}
 use Rattle.search.specs.Search.{Level, below}
 use Rattle.engine.specs.declared.level.LevelRecord.{LevelRecord}
-use Rattle.engine.specs.Levels.{no_record, level_at, first_levels, levels_at, is_none, is_spent, newest_sets, without_newest, tried, Voiced}
+use Rattle.engine.specs.Levels.{no_record, level_at, first_levels, levels_at, is_none, is_spent, newest_sets, without_newest, next_sets, tried, Voiced}
 
 -- ---- a stack with no level, and one with some
 
@@ -68,6 +68,18 @@ newest_length n trail records w h =
     let k = place_of_newest n (length records) (length trail) w h in
     ap (λ ls. length (newest_sets ls)) (levels_some n trail records h)
     ∙ length-take-le n (drop ((length records - 1) * n) trail) (omega (arith, k, length-drop ((length records - 1) * n) trail))
+
+-- ---- the node that is opened next
+
+-- its sets are those of the newest level, with its voice at the least value left
+pub next_are : (n : ℕ) (trail : List ℕ) (records : List LevelRecord) (voices sets : List ℕ) (l : LevelRecord) (x : ℕ) → 0 < length records
+    → sets ≡ newest_sets (levels_at n trail records) → l ≡ get_or records (length records - 1) no_record → x ≡ only (least l.left)
+    → set sets l.voice x ≡ next_sets voices (levels_at n trail records)
+next_are n trail records voices sets l x h e r f =
+    let here : sets ≡ take n (drop ((length records - 1) * n) trail) = e ∙ ap newest_sets (levels_some n trail records h) in
+    ap₂ (λ (s : List ℕ) (y : ℕ). set s l.voice y) here f
+    ∙ ap (λ (k : LevelRecord). set (take n (drop ((length records - 1) * n) trail)) k.voice (only (least k.left))) r
+    ∙ sym (ap (next_sets voices) (levels_some n trail records h))
 
 -- ---- levels that a step leaves alone
 

@@ -1,17 +1,19 @@
-// The value that a level tries next.
-ghost use Rattle.std.specs.Prelude.{◌≡◌, ◌-◌, ◌≤◌, if◌then◌else◌, nat_eq};
+// A level goes on to its next value.
+ghost use Rattle.std.specs.Prelude.{◌≡◌, ◌-◌, ◌<◌};
 ghost use Rattle.sets.specs.Sets.{least, only};
 
 use crate::level::LevelRecord;
-use sets::{ValueSet, least_value, single};
+use sets::{least_value, single};
 
 impl LevelRecord {
-    // The set of the least value that is left to try; empty if there is none.
-    pub(crate) fn next(self) -> ValueSet
-        ensures value { result ≡ (if nat_eq self.left 0 then 0 else only (least self.left)) }
-        ensures inside { result ≤ self.left }
-        ensures rest { self.left - result ≡ self.left - only (least self.left) }
+    // Takes out the least value that is left to try, and gives it; 64 if there is none, and then nothing is taken out.
+    pub(crate) fn advance(&mut self) -> u32
+        ensures value { result ≡ least self.old.left }
+        ensures inside { 0 < self.old.left → result < 64 }
+        ensures after { self.new ≡ record { voice = self.old.voice; left = self.old.left - only (least self.old.left) } }
     {
-        single(least_value(self.left))
+        let value = least_value(self.left);
+        self.left -= single(value);
+        value
     }
 }

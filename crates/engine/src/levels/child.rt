@@ -5,7 +5,7 @@ ghost use Rattle.engine.specs.Levels.{is_spent, next_sets, tried};
 ghost use Rattle.engine.specs.Stacks.{listed};
 
 use crate::levels::Levels;
-use sets::ValueSet;
+use sets::{ValueSet, single};
 
 impl Levels {
     // Writes the sets of the node that is opened next: the voices' opening sets where there is no level, otherwise those of the newest level, with its voice
@@ -22,7 +22,9 @@ impl Levels {
             return;
         };
         sets.copy_from_slice(self.newest_sets());
-        sets[level.voice] = level.next();
+        // of a copy, since the level itself goes on only once the node is classified
+        let mut level = *level;
+        sets[level.voice] = single(level.advance());
     }
 
     // Takes that value out of the newest level, if there is one.
@@ -31,7 +33,7 @@ impl Levels {
         ensures list { listed self.new ≡ tried (listed self.old) }
     {
         if let Some(level) = self.records.last_mut() {
-            level.left -= level.next();
+            let _ = level.advance();
         }
     }
 }

@@ -12,10 +12,8 @@ returns-in-Some-clause-list c =
     let l = c.in-Some.level.now in
     let d : s.records.len ≡ length s.records.items = s.records.ok.0 in
     let some : 0 < length s.records.items = omega (arith, d, c.in-Some.ensures.variant.0 refl) in
-    let next : ℕ → LevelRecord = λ x. record { voice = l.voice; left = x } in
     let read : c.in-Some.level.now ≡ get_or xs (length xs - 1) no_record =
     c.in-Some.ensures.value ∙ ap (λ (n : ℕ). get_or xs (n - 1) l) d ∙ get_or_default xs (length xs - 1) l no_record (omega arith) in
-    levels_tried s.width s.trail.items xs (set xs (s.records.len - 1) (next (l.left - c.next.result))) some
-    (ap (λ (n : ℕ). set xs (n - 1) (next (l.left - c.next.result))) d
-    ∙ ap (λ (x : ℕ). set xs (length xs - 1) (next x)) c.next.ensures.rest
-    ∙ ap (λ (r : LevelRecord). set xs (length xs - 1) (record_taken r)) read)
+    let gone : c.advance.new.self ≡ record_taken l = c.advance.ensures.after in
+    levels_tried s.width s.trail.items xs (set xs (s.records.len - 1) c.advance.new.self) some
+    (ap (λ (n : ℕ). set xs (n - 1) c.advance.new.self) d ∙ ap (λ (r : LevelRecord). set xs (length xs - 1) r) (gone ∙ ap record_taken read))
