@@ -71,6 +71,11 @@ newest_length n trail records w h =
 
 -- ---- the node that is opened next
 
+-- a value taken out of the newest level leaves its sets
+pub newest_tried : (ls : List Level) → newest_sets (tried ls) ≡ newest_sets ls
+newest_tried [] = refl
+newest_tried (l ∷ ls) = refl
+
 -- its sets are those of the newest level, with its voice at the least value left
 pub next_are : (n : ℕ) (trail : List ℕ) (records : List LevelRecord) (voices sets : List ℕ) (l : LevelRecord) (x : ℕ) → 0 < length records
     → sets ≡ newest_sets (levels_at n trail records) → l ≡ get_or records (length records - 1) no_record → x ≡ only (least l.left)

@@ -10,12 +10,11 @@ use Rattle.stores.specs.Stores.{View, member}
 use Rattle.stores.specs.Behaviours.{Behaviour}
 use Rattle.search.specs.Propagation.{propagated}
 use Rattle.search.specs.Search.{Level, Node, Place, BacksUp, Opens, node, below, first_open, level_of}
-use Rattle.search.specs.Search.Place.{going, found}
 use Rattle.search.specs.Search.Node.{dead, solution, hit, branch}
 use Rattle.engine.specs.declared.level.End.{End}
 use Rattle.engine.specs.declared.level.End.TheVariants.{Found, Exhausted}
 use Rattle.engine.specs.Levels.{tried, stop, Backed}
-use Rattle.engine.specs.Places.{place_of, Opened}
+use Rattle.engine.specs.Places.{place_of}
 use Rattle.engine.specs.Nodes.{node_of}
 use Rattle.engine.specs.declared.node.Node as code
 use Rattle.engine.specs.declared.node.Node.TheVariants.{Dead, Hit}
@@ -103,9 +102,10 @@ module _ (m : Meaning) (rows : List RowData) (v : View) (k : ℕ) (s : List ℕ)
 
 -- ---- opening a node, from what it is
 
-below_tried : (ls : List Level) → below (tried ls) ≡ below ls
-below_tried [] = refl
-below_tried (l ∷ ls) = refl
+-- the node with the sets s is opened below the levels ls; n levels are exhausted
+pub record Opened (st : Behaviour) (m : Meaning) (rows : List RowData) (s : List ℕ) (ls : List Level) (v : st.State) (p : Place) (w : st.State) (n : ℕ) : Type 0 where
+  pub lost : ℕ
+  pub opens : Opens st m rows s ls v p w n lost
 
 place_spent : (w : List ℕ) (ls : List Level) → stop ls ≡ place_of Exhausted w ls
 place_spent w [] = refl
@@ -122,34 +122,33 @@ pub failed : (r : code.Node) (t : List ℕ) → (r ≡ Dead) ⊎ (r ≡ Hit) →
 failed r t (inl e) = subst (λ (x : code.Node). Fails (node_of x t)) (sym e) tt
 failed r t (inr e) = subst (λ (x : code.Node). Fails (node_of x t)) (sym e) tt
 
-module _ (st : Behaviour) (m : Meaning) (rows : List RowData) (s t : List ℕ) (ls : List Level) (v : st.State) where
-  at_node : {x : Node} → t ≡ propagated m rows s → node m rows (st.view v) (below ls) t ≡ x → node m rows (st.view v) (below (tried ls)) (propagated m rows s) ≡ x
-  at_node e h = ap₂ (node m rows (st.view v)) (below_tried ls) (sym e) ∙ h
+-- The node with the sets s, which are propagated to t; the voices below k are fixed.
+module _ (st : Behaviour) (m : Meaning) (rows : List RowData) (s t : List ℕ) (ls : List Level) (v : st.State) (k : ℕ) where
+  at_node : {x : Node} → t ≡ propagated m rows s → k ≡ below (tried ls) → node m rows (st.view v) k t ≡ x → node m rows (st.view v) (below (tried ls)) (propagated m rows s) ≡ x
+  at_node e f h = ap₂ (node m rows (st.view v)) (sym f) (sym e) ∙ h
 
-  opens_failed : (x : Node) (p : Place) (w : st.State) (n k : ℕ) → Fails x → node m rows (st.view v) (below (tried ls)) (propagated m rows s) ≡ x → BacksUp st m rows (tried ls) v p w n k
-      → Opens st m rows s (tried ls) v p w n k
-  opens_failed dead p w n k f h b = Opens.dies p w n k h b
-  opens_failed hit p w n k f h b = Opens.hits p w n k h b
-  opens_failed (solution q) p w n k f h b = absurd f
-  opens_failed (branch l) p w n k f h b = absurd f
+  opens_failed : (x : Node) (p : Place) (w : st.State) (n j : ℕ) → Fails x → node m rows (st.view v) (below (tried ls)) (propagated m rows s) ≡ x → BacksUp st m rows (tried ls) v p w n j
+      → Opens st m rows s (tried ls) v p w n j
+  opens_failed dead p w n j f h b = Opens.dies p w n j h b
+  opens_failed hit p w n j f h b = Opens.hits p w n j h b
+  opens_failed (solution q) p w n j f h b = absurd f
+  opens_failed (branch l) p w n j f h b = absurd f
 
-  pub opened_failed : (x : Node) (under : List Level) (w : st.State) (rest : List Level) (y : List ℕ) (n i : ℕ) → Fails x → t ≡ propagated m rows s → node m rows (st.view v) (below ls) t ≡ x
-      → under ≡ tried ls → i ≡ n → Backed st m rows under v rest w n → Opened st m rows s (tried ls) v (place_of Exhausted y rest) w i
-  opened_failed x under w rest y n i f e h q j b =
-      let c : Backed st m rows (tried ls) v rest w i = subst (λ a. Backed st m rows (tried ls) v rest w a) (sym j) (subst (λ a. Backed st m rows a v rest w n) q b) in
-      record { lost = c.lost; opens = subst (λ p. Opens st m rows s (tried ls) v p w i c.lost) (place_spent y rest) (opens_failed x (stop rest) w i c.lost f (at_node e h) c.backs) }
+  pub opened_failed : (x : Node) (under : List Level) (w : st.State) (rest : List Level) (y : List ℕ) (n : ℕ) → Fails x → t ≡ propagated m rows s → k ≡ below (tried ls) → node m rows (st.view v) k t ≡ x
+      → under ≡ tried ls → Backed st m rows under v rest w n → Opened st m rows s (tried ls) v (place_of Exhausted y rest) w n
+  opened_failed x under w rest y n f e g h q b =
+      let c : Backed st m rows (tried ls) v rest w n = subst (λ a. Backed st m rows a v rest w n) q b in
+      record { lost = c.lost; opens = subst (λ p. Opens st m rows s (tried ls) v p w n c.lost) (place_spent y rest) (opens_failed x (stop rest) w n c.lost f (at_node e g h) c.backs) }
 
-  pub opened_solution : (rest : List Level) (y : List ℕ) (i : ℕ) → t ≡ propagated m rows s → node m rows (st.view v) (below ls) t ≡ solution (values t) → rest ≡ [] → y ≡ t → i ≡ 0
-      → Opened st m rows s (tried ls) v (place_of Found y rest) v i
-  opened_solution rest y i e h q z j =
-      subst (λ a. Opened st m rows s (tried ls) v (place_of Found y a) v i) (sym q)
-      (subst (λ a. Opened st m rows s (tried ls) v (place_of Found a []) v i) (sym z)
-      (subst (λ a. Opened st m rows s (tried ls) v (found (values t)) v a) (sym j)
-      (record { lost = 0; opens = Opens.finds (values t) (at_node e h) })))
+  pub opened_solution : (rest : List Level) (y : List ℕ) → t ≡ propagated m rows s → k ≡ below (tried ls) → node m rows (st.view v) k t ≡ solution (values t) → rest ≡ [] → y ≡ t
+      → Opened st m rows s (tried ls) v (place_of Found y rest) v 0
+  opened_solution rest y e g h q z =
+      subst (λ a. Opened st m rows s (tried ls) v (place_of Found y a) v 0) (sym q)
+      (subst (λ a. Opened st m rows s (tried ls) v (place_of Found a []) v 0) (sym z)
+      (record { lost = 0; opens = Opens.finds (values t) (at_node e g h) }))
 
-  pub opened_branch : (l : Level) (rest : List Level) (z : End) (y : List ℕ) (i : ℕ) → t ≡ propagated m rows s → node m rows (st.view v) (below ls) t ≡ branch l → rest ≡ l ∷ tried ls → i ≡ 0
-      → Opened st m rows s (tried ls) v (place_of z y rest) v i
-  opened_branch l rest z y i e h q j =
-      subst (λ r. Opened st m rows s (tried ls) v (place_of z y r) v i) (sym q)
-      (subst (λ a. Opened st m rows s (tried ls) v (going l (tried ls)) v a) (sym j)
-      (record { lost = 0; opens = Opens.branches l (at_node e h) }))
+  pub opened_branch : (l : Level) (rest : List Level) (z : End) (y : List ℕ) → t ≡ propagated m rows s → k ≡ below (tried ls) → node m rows (st.view v) k t ≡ branch l → rest ≡ l ∷ tried ls
+      → Opened st m rows s (tried ls) v (place_of z y rest) v 0
+  opened_branch l rest z y e g h q =
+      subst (λ r. Opened st m rows s (tried ls) v (place_of z y r) v 0) (sym q)
+      (record { lost = 0; opens = Opens.branches l (at_node e g h) })

@@ -7,8 +7,9 @@ use Rattle.search.specs.Calls.{Table, over, Goes}
 use Rattle.engine.specs.declared.level.End.{End}
 use Rattle.engine.specs.declared.level.End.TheVariants.{Fresh, Found, Exhausted}
 use Rattle.engine.specs.Levels.{next_sets, tried}
-use Rattle.engine.specs.Places.{place_of, Opened}
+use Rattle.engine.specs.Places.{place_of}
 use Rattle.engine.specs.Searches.{Ran, Runs}
+use Rattle.engine.proofs.Openings.{Opened}
 
 -- ---- the node that is opened next
 

@@ -30,14 +30,6 @@ place s = place_of s.end (vec_items s.sets) (levels_of s)
 abbrev pub table_of : List ℕ → List RowData → Search → ℕ → Table
 table_of voices rows s lost = record { voices = voices; rows = rows; place = place s; opened = s.opened; exhausted = s.exhausted; lost = lost }
 
--- a search stands where it stood, with the same counts, whatever the sets of the node are
-pub record SamePlace (s t : Search) : Type 0 where
-  pub voices : voice_count t ≡ voice_count s
-  pub levels : t.levels ≡ s.levels
-  pub end : t.end ≡ s.end
-  pub opened : t.opened ≡ s.opened
-  pub exhausted : t.exhausted ≡ s.exhausted
-
 -- a search with n voices that has not begun
 pub record Begun (n : ℕ) (s : Search) : Type 0 where
   pub voices : voice_count s ≡ n

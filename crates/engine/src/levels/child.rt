@@ -9,31 +9,23 @@ use sets::{ValueSet, single};
 
 impl Levels {
     // Writes the sets of the node that is opened next: the voices' opening sets where there is no level, otherwise those of the newest level, with its voice
-    // fixed to the least value that is left to try.
-    pub(crate) fn read_next(&self, voices: &[ValueSet], sets: &mut [ValueSet])
-        requires voices { length voices.now ≡ self.now.width }
-        requires width { length sets.old ≡ self.now.width }
-        requires lasts { is_spent (listed self.now) ≡ false }
-        ensures after { sets.new ≡ next_sets voices.now (listed self.now) }
+    // fixed to the least value that is left to try, which is taken out of the level.
+    pub(crate) fn enter_next(&mut self, voices: &[ValueSet], sets: &mut [ValueSet])
+        requires voices { length voices.now ≡ self.old.width }
+        requires width { length sets.old ≡ self.old.width }
+        requires lasts { is_spent (listed self.old) ≡ false }
+        ensures width { self.new.width ≡ self.old.width }
+        ensures list { listed self.new ≡ tried (listed self.old) }
+        ensures after { sets.new ≡ next_sets voices.now (listed self.old) }
         ensures proper { Proper voices.now → Proper sets.new }
     {
-        let Some(level) = self.records.last() else {
+        let Some(level) = self.records.last_mut() else {
             sets.copy_from_slice(voices);
             return;
         };
+        let value = level.advance();
+        let voice = level.voice;
         sets.copy_from_slice(self.newest_sets());
-        // of a copy, since the level itself goes on only once the node is classified
-        let mut level = *level;
-        sets[level.voice] = single(level.advance());
-    }
-
-    // Takes that value out of the newest level, if there is one.
-    pub(crate) fn take_next(&mut self)
-        ensures width { self.new.width ≡ self.old.width }
-        ensures list { listed self.new ≡ tried (listed self.old) }
-    {
-        if let Some(level) = self.records.last_mut() {
-            let _ = level.advance();
-        }
+        sets[voice] = single(value);
     }
 }

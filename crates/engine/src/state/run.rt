@@ -1,16 +1,15 @@
 // A search run, one node after the other.
-ghost use Rattle.std.specs.Prelude.{◌≡◌, ◌+◌, ◌-◌, ◌<◌, ◌≤◌, false, length};
+ghost use Rattle.std.specs.Prelude.{◌≡◌, ◌+◌, ◌<◌, ◌≤◌, false, length};
 ghost use Rattle.rows.specs.Views.{rows_of};
 ghost use Rattle.search.specs.Limits.{most_rows, most_opened};
 ghost use Rattle.search.specs.Placed.{Ready};
 ghost use Rattle.search.specs.Calls.{over};
-ghost use Rattle.engine.specs.Levels.{tried};
-ghost use Rattle.engine.specs.Places.{Opened};
-ghost use Rattle.engine.specs.Searches.{voice_count, node_sets, levels_of, place, table_of, Ran, Runs};
+ghost use Rattle.engine.specs.Searches.{voice_count, place, table_of, Ran, Runs};
 
 use crate::level::End;
 use crate::node::Node;
 use crate::state::Search;
+use crate::state::node::classify;
 use rows::bank::Bank;
 use rows::row::Row;
 use sets::ValueSet;
@@ -18,19 +17,20 @@ use stores::store::Store;
 
 // Each of these says that there are as many voices as before, which no ghost field can say.
 impl Search {
-    // Opens the node with the sets that were read, which is the newest level's next child, or the root if there is no level.
-    fn open_node<B: Bank, S: Store>(&mut self, rows: &[Row], store: &mut S)
+    // Opens the root, or the next child of the newest level.
+    fn step<B: Bank, S: Store>(&mut self, rows: &[Row], voices: &[ValueSet], store: &mut S)
+        requires open { over (place self.old) ≡ false }
+        requires voices { length voices.now ≡ voice_count self.old }
         requires rows { length rows.now ≤ most_rows }
         requires few { self.old.opened < most_opened }
-        requires ready { Ready B.Bank.meaning (rows_of rows.now) (node_sets self.old) }
-        ensures opens { Opened S.Store.behaviour B.Bank.meaning (rows_of rows.now) (node_sets self.old) (tried (levels_of self.old)) (S.Store.state store.old) (place self.new) (S.Store.state store.new) (self.new.exhausted - self.old.exhausted) }
-        ensures more { self.old.exhausted ≤ self.new.exhausted }
+        requires ready { Ready B.Bank.meaning (rows_of rows.now) voices.now }
+        ensures goes { Ran S.Store.behaviour B.Bank.meaning 1 (table_of voices.now (rows_of rows.now) self.old) (S.Store.state store.old) (table_of voices.now (rows_of rows.now) self.new) (S.Store.state store.new) }
         ensures voices { voice_count self.new ≡ voice_count self.old }
         ensures count { self.new.opened ≡ self.old.opened + 1 }
     {
-        let node = self.classify::<B, S>(rows, store);
-        // only now, since the newest level may have no value left from here to the end
-        self.levels.take_next();
+        self.levels.enter_next(voices, &mut self.sets);
+        let from = self.levels.fixed_below();
+        let node = classify::<B, S>(rows, from, &mut self.sets, &mut self.keys, store);
         self.opened += 1;
         match node {
             Node::Dead | Node::Hit => {
@@ -43,21 +43,6 @@ impl Search {
             }
             Node::Branch(v) => self.levels.push(v, &self.sets),
         }
-    }
-
-    // Opens the root, or the next child of the newest level.
-    fn step<B: Bank, S: Store>(&mut self, rows: &[Row], voices: &[ValueSet], store: &mut S)
-        requires open { over (place self.old) ≡ false }
-        requires voices { length voices.now ≡ voice_count self.old }
-        requires rows { length rows.now ≤ most_rows }
-        requires few { self.old.opened < most_opened }
-        requires ready { Ready B.Bank.meaning (rows_of rows.now) voices.now }
-        ensures goes { Ran S.Store.behaviour B.Bank.meaning 1 (table_of voices.now (rows_of rows.now) self.old) (S.Store.state store.old) (table_of voices.now (rows_of rows.now) self.new) (S.Store.state store.new) }
-        ensures voices { voice_count self.new ≡ voice_count self.old }
-        ensures count { self.new.opened ≡ self.old.opened + 1 }
-    {
-        self.levels.read_next(voices, &mut self.sets);
-        self.open_node::<B, S>(rows, store);
     }
 
     // Opens nodes until the search is over, and at most `budget` of them.
