@@ -1,3 +1,3 @@
 pub mod Adding
-pub mod Slacks
 pub mod Passes
+pub mod Slacks

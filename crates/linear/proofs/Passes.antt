@@ -1,13 +1,15 @@
 -- A turn in two passes: a list filled place by place, and then a run of cuts.
-use Rattle.std.proofs.Common.{◌≡◌, ℕ, zero, suc, replicate, ◌+◌, ◌<◌, Bool, ◌||◌, List, [], ◌∷◌, ◌++◌, map, length, get_or, take, set, ℤ, pos, inl, inr, sym, ap, ◌∙◌, ap₂, arith, take_all}
+use Rattle.std.proofs.Common.{◌≡◌, ℕ, zero, suc, replicate, ◌+◌, ◌<◌, Bool, true, false, ◌&&◌, ◌||◌, List, [], ◌∷◌, ◌++◌, map, length, get_or, take, set, ℤ, pos, inl, inr, sym, refl, ap, ◌∙◌, ap₂, arith, take_all}
 use Rattle.std.proofs.lemmas.List.{take_more_set, map_more, get_or-take, get_or-map, get_or-set_same, get_or-set_other, set_past}
 use Rattle.std.proofs.lemmas.Int.{ints}
 use Rattle.std.proofs.lemmas.Bool.{cases_eq, cases_lt}
 use Rattle.linear.specs.Sums.{Near}
 use Rattle.rows.specs.declared.member.Member.{Member}
-use Rattle.sets.specs.Placings.{changed}
-use Rattle.narrowing.specs.Shared.{cut, cuts}
-use Rattle.narrowing.proofs.Cuts.{Small}
+use Rattle.sets.specs.Placings.{changed, Narrower}
+use Rattle.sets.specs.Sets.{has, sift}
+use Rattle.sets.proofs.Membership.{has_sift, sift_below, same_sets}
+use Rattle.narrowing.specs.Shared.{at, cut, cuts}
+use Rattle.narrowing.proofs.Cuts.{Small, cut_narrower, narrower_trans}
 use Rattle.narrowing.proofs.Narrowing.{cut_same, cuts_more_one, cuts_flag}
 
 -- ---- a list filled with what f makes of each member
@@ -48,3 +50,25 @@ cut_more f ms i d first before after g took took_now small h inv k a t =
       ap₂ ◌||◌ (inv.1 ∙ ap (λ x. changed x first) inv.0) (t ∙ ap₂ changed cut-once inv.0)
           ∙ cuts_flag f (take i ms) first m.voice (f m) small ∙ sym (ap (λ x. changed x first) cut-once),
     )
+
+-- ---- a run of cuts that lets nothing pass
+
+-- no value of t passes: the cut is that of the test that lets none pass
+cut_none : (j : ℕ) (f : ℕ → Bool) (t : List ℕ) → ((v : ℕ) → has (get_or t j 0) v ≡ true → f v ≡ false) → cut j f t ≡ cut j (λ v. false) t
+unfolding cut
+cut_none j f t e =
+    ap (set t j)
+    (same_sets 64 (sift f (get_or t j 0)) (sift (λ v. false) (get_or t j 0)) (sift_below f (get_or t j 0)) (sift_below (λ v. false) (get_or t j 0))
+    (λ v l. has_sift f (get_or t j 0) v l ∙ go v (has (get_or t j 0) v) refl ∙ sym (has_sift (λ v. false) (get_or t j 0) v l)))
+  where
+    go : (v : ℕ) (b : Bool) → has (get_or t j 0) v ≡ b → (b && f v) ≡ (b && false)
+    go v true k = e v k
+    go v false k = refl
+
+-- a run of cuts of t, a part of s, that lets no value of s pass
+pub cuts_none : (f : Member → ℕ → Bool) (ms : List Member) (s t : List ℕ) → Narrower t s → ((m : Member) (v : ℕ) → has (at s m) v ≡ true → f m v ≡ false)
+    → cuts f ms t ≡ cuts (λ m v. false) ms t
+cuts_none f [] s t n e = refl
+cuts_none f (m ∷ ms) s t n e =
+    ap (cuts f ms) (cut_none m.voice (f m) t (λ v k. e m v (n.each m.voice v k)))
+    ∙ cuts_none f ms s (cut m.voice (λ v. false) t) (narrower_trans (cut m.voice (λ v. false) t) t s (cut_narrower m.voice (λ v. false) t) n) e

@@ -17,9 +17,10 @@ use Rattle.narrowing.specs.Shared.{at, cuts}
 use Rattle.rows.specs.Rows.{RowData}
 use Rattle.rows.specs.declared.member.Member.{Member}
 use Rattle.linear.specs.Sums.{bound, total, term, low, high, within, Near}
-use Rattle.linear.specs.SumsLaws.{high_ge}
-use Rattle.narrowing.proofs.Cuts.{Small, all_each, each_all, each_map}
+use Rattle.linear.specs.SumsLaws.{low_le, high_ge}
+use Rattle.narrowing.proofs.Cuts.{Small, all_each, each_all, each_map, narrower_refl}
 use Rattle.narrowing.proofs.Narrowing.{cuts_kept}
+use Rattle.linear.proofs.Passes.{cuts_none}
 use Rattle.sets.proofs.Membership.{has_mask, mask_below}
 use Rattle.sets.proofs.Masks.{mask_is, all_mask, none_mask}
 
@@ -126,6 +127,15 @@ pub none_cut : (r : RowData) (s : List ℕ) (w : ℤ) → Small s → w ≤ℤ (
 none_cut r s w h l e = cuts_kept (within r s) r.members s h
     (each_map (λ m. reaches s w m ≡ true) (λ m. (v : ℕ) → has (at s m) v ≡ true → within r s m v ≡ true) r.members (λ m k v. passes r s w m v h l k) (all_each (reaches s w) r.members e))
 
+-- ---- where every value passes its slack
+
+-- not even the least terms are within the bound: then no value passes
+none_pass : (r : RowData) (s : List ℕ) (m : Member) (v : ℕ) → Small s → (bound r -ℤ total (low s) r.members) <ℤ pos 0 → has (at s m) v ≡ true → within r s m v ≡ false
+none_pass r s m v h l e = sym (omega (arith, ints, low_le s m v h e))
+
+pub all_cut : (r : RowData) (s : List ℕ) → Small s → (bound r -ℤ total (low s) r.members) <ℤ pos 0 → cuts (within r s) r.members s ≡ cuts (λ m v. false) r.members s
+all_cut r s h l = cuts_none (within r s) r.members s s (narrower_refl s) (λ m v. none_pass r s m v h l)
+
 all_push : (f : Member → Bool) (ms : List Member) (m : Member) → list_all f ms ≡ true → f m ≡ true → list_all f (ms ++ (m ∷ [])) ≡ true
 all_push f [] m e k = and_from (f m) true k refl
 all_push f (n ∷ ms) m e k = let p = and_parts (f n) (list_all f ms) e in and_from (f n) (list_all f (ms ++ (m ∷ []))) p.0 (all_push f ms m p.1 k)
@@ -155,6 +165,10 @@ spare_is b t w hb ht f e =
     let spare : to_z w64 (of_z w64 (to_z w64 (of_z w64 b) -ℤ to_z w64 (of_z w64 t))) ≡ (b -ℤ t) = omega (arith, ints, hb.above, hb.below, ht.above, ht.below) in
     let k : le_z w (b -ℤ t) ≡ true = ap₂ le_z (sym back) (sym spare) ∙ e in
     omega (arith, ints, k)
+
+-- the code's sum is above the code's bound
+pub over_bound : (b t : ℤ) → Near 2147483648 b → Near 67108864 t → lt_z (to_z w64 (of_z w64 b)) (to_z w64 (of_z w64 t)) ≡ true → (b -ℤ t) <ℤ pos 0
+over_bound b t hb ht e = omega (arith, ints, hb.above, hb.below, ht.above, ht.below, e)
 
 -- a pass that takes the greatest reach, one member on: x and y are the member's greatest and least, as the code has them
 pub widest_more : (s : List ℕ) (ms : List Member) (i : ℕ) (d : Member) (w x y z : ℤ) → i < length ms → FitsSigned w64 z → list_all (reaches s w) (take i ms) ≡ true

@@ -75,7 +75,7 @@ times_abs : (c : ℤ) (a : ℕ) → unsigned_abs (c *ℤ pos a) ≡ unsigned_abs
 times_abs (pos c) a = refl
 times_abs (negsuc c) a = abs_neg (suc c * a)
 
-low_le : (s : List ℕ) (m : Member) (v : ℕ) → Small s → has (at s m) v ≡ true → low s m ≤ℤ term m v
+pub low_le : (s : List ℕ) (m : Member) (v : ℕ) → Small s → has (at s m) v ≡ true → low s m ≤ℤ term m v
 low_le s m v h e = go (non_neg m.argument) refl
   where
     go : (b : Bool) → non_neg m.argument ≡ b → cond b (term m (least (at s m))) (term m (greatest (at s m))) ≤ℤ term m v

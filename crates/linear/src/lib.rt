@@ -1,10 +1,10 @@
 // The kind L: the sum of coefficient × value over a row's members is at most a bound.
 #![tactic(auto)]
 
-ghost use Rattle.std.specs.Prelude.{◌≡◌, refl, ℕ, true, ◌*◌, ◌^◌, map, length, take, pos, ◌-ℤ◌, ◌*ℤ◌, int_le, nat_le, slice_index_or, unsigned_abs, if◌then◌else◌};
+ghost use Rattle.std.specs.Prelude.{◌≡◌, refl, ℕ, true, false, ◌*◌, ◌^◌, map, length, take, pos, ◌-ℤ◌, ◌*ℤ◌, int_le, nat_le, slice_index_or, unsigned_abs, if◌then◌else◌};
 ghost use Rattle.sets.specs.Sets.{mask, least, greatest};
 ghost use Rattle.sets.specs.Placings.{changed};
-ghost use Rattle.narrowing.specs.Shared.{at, cut};
+ghost use Rattle.narrowing.specs.Shared.{at, cut, cuts};
 ghost use Rattle.std.specs.List.{list_all};
 ghost use Rattle.rows.specs.Views.{row_of};
 ghost use Rattle.linear.specs.Sums.{bound as bound_of, low, high, placed, term, total, linear_rule, linear, Near};
@@ -145,6 +145,18 @@ fn lowest_terms(row: &Row, sets: &[ValueSet]) -> ([i64; MOST_MEMBERS], i64, i64)
     (lows, sum, widest)
 }
 
+// Empties every member's set; says whether one had a value.
+fn empty_all(members: &[Member], sets: &mut [ValueSet]) -> bool
+    ensures after { sets.new ≡ cuts (λ m v. false) members.now sets.old }
+    ensures value { result ≡ changed sets.new sets.old }
+{
+    let mut took = false;
+    for m in members {
+        took |= keep_only(sets, m.voice, 0);
+    }
+    took
+}
+
 // Whether the coefficients are all from -1,000 to 1,000.
 fn are_small(members: &[Member]) -> bool
     ensures { result ≡ list_all (λ m. nat_le (unsigned_abs m.argument) 1000) members.now }
@@ -197,10 +209,15 @@ impl Kind for Linear {
         ensures value { result ≡ changed sets.new sets.old }
     {
         let (lows, sum, widest) = lowest_terms(row, sets);
-        let spare = bound(row) - sum;
+        let bound = bound(row);
+        let spare = bound - sum;
         // no member's greatest passes its slack: nothing has to go
         if widest <= spare {
             return false;
+        }
+        // not even the least terms are within the bound: everything has to go
+        if sum > bound {
+            return empty_all(row.members(), sets);
         }
         let mut took = false;
         // by index: what `keep_within` needs of a term is known by the member's place

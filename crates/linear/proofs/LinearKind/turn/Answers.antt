@@ -1,4 +1,4 @@
-use Rattle.std.proofs.Common.{◌≡◌, ◌<◌, length, get_or, pos, ◌-ℤ◌, ◌≤ℤ◌, sym, refl, ap, ◌∙◌, subst, arith, take_all, rules}
+use Rattle.std.proofs.Common.{◌≡◌, ◌<◌, length, get_or, pos, ◌-ℤ◌, ◌≤ℤ◌, ◌<ℤ◌, false, sym, refl, ap, ◌∙◌, subst, arith, take_all, rules}
 use lib.Signed.{le_z}
 use Rattle.rows.specs.Views.{row_of}
 use Rattle.narrowing.specs.Shared.{cut, cuts}
@@ -7,7 +7,7 @@ use Rattle.narrowing.proofs.Cuts.{Small}
 use Rattle.narrowing.proofs.Narrowing.{unchanged}
 use Rattle.narrowing.proofs.Scans.{nobody}
 use Rattle.linear.proofs.Passes.{filled_at, cut_more}
-use Rattle.linear.proofs.Slacks.{slack_of, slack_fits, slack_is, spare_is, test_within, none_cut}
+use Rattle.linear.proofs.Slacks.{slack_of, slack_fits, slack_is, spare_is, test_within, none_cut, all_cut, over_bound}
 use Rattle.linear.proofs.LinearKind.turn.Goals as goal
 
 pub loop-i-init : goal.loop-i-init
@@ -21,7 +21,7 @@ overflow_add-spare c =
     let same = c.members-m-items.ensures in
     let here : i < length ms = omega (arith, c.loop-i-test.true, ap length same) in
     let l = get_or c.lowest_terms-sum.result.0 i (pos 0) in
-    slack_fits c.bound.result c.lowest_terms-sum.result.1 l c.bound.ensures.near c.lowest_terms-sum.ensures.near (c.lowest_terms-sum.ensures.small i)
+    slack_fits c.bound-bound.result c.lowest_terms-sum.result.1 l c.bound-bound.ensures.near c.lowest_terms-sum.ensures.near (c.lowest_terms-sum.ensures.small i)
 
 pub loop-i-preserved : goal.loop-i-preserved
 loop-i-preserved c =
@@ -33,13 +33,13 @@ loop-i-preserved c =
     let here : i < length ms = omega (arith, c.loop-i-test.true, ap length same) in
     let small : Small s = λ k. search rules in
     let m = get_or ms i nobody in
-    let b = c.bound.result in
+    let b = c.bound-bound.result in
     let t = c.lowest_terms-sum.result.1 in
     let l = get_or c.lowest_terms-sum.result.0 i (pos 0) in
     let own : l ≡ low s m = filled_at (low s) ms c.lowest_terms-sum.result.0 i nobody (pos 0) here c.lowest_terms-sum.ensures.terms in
-    let slack = slack_is b t l c.bound.ensures.near c.lowest_terms-sum.ensures.near (c.lowest_terms-sum.ensures.small i) in
+    let slack = slack_is b t l c.bound-bound.ensures.near c.lowest_terms-sum.ensures.near (c.lowest_terms-sum.ensures.small i) in
     cut_more (within r s) ms i nobody s c.loop-i.sets c.keep_within-took.new.sets (λ v. le_z (term m v) (slack_of b t l)) c.loop-i.took c.keep_within-took.result small here c.loop-i.invariant
-    (λ v. ap (le_z (term m v)) slack ∙ test_within r s m b t l v c.bound.ensures.value c.lowest_terms-sum.ensures.sum own)
+    (λ v. ap (le_z (term m v)) slack ∙ test_within r s m b t l v c.bound-bound.ensures.value c.lowest_terms-sum.ensures.sum own)
     (c.keep_within-took.ensures.after ∙ ap (λ x. cut (get_or x i nobody).voice (λ v. le_z (term (get_or x i nobody) v) (slack_of b t l)) c.loop-i.sets) same)
     c.keep_within-took.ensures.value
 
@@ -59,9 +59,21 @@ returns-then-widest-spare c =
     let small : Small s = search rules in
     record {
       after = sym (none_cut r s c.lowest_terms-sum.result.2 small
-          (subst (λ b. c.lowest_terms-sum.result.2 ≤ℤ (b -ℤ total (low s) r.members)) c.bound.ensures.value
-          (subst (λ t. c.lowest_terms-sum.result.2 ≤ℤ (c.bound.result -ℤ t)) c.lowest_terms-sum.ensures.sum
-          (spare_is c.bound.result c.lowest_terms-sum.result.1 c.lowest_terms-sum.result.2 c.bound.ensures.near c.lowest_terms-sum.ensures.near (search rules) c.if-widest-spare.true)))
+          (subst (λ b. c.lowest_terms-sum.result.2 ≤ℤ (b -ℤ total (low s) r.members)) c.bound-bound.ensures.value
+          (subst (λ t. c.lowest_terms-sum.result.2 ≤ℤ (c.bound-bound.result -ℤ t)) c.lowest_terms-sum.ensures.sum
+          (spare_is c.bound-bound.result c.lowest_terms-sum.result.1 c.lowest_terms-sum.result.2 c.bound-bound.ensures.near c.lowest_terms-sum.ensures.near (search rules) c.if-widest-spare.true)))
           c.lowest_terms-sum.ensures.widest);
       value = sym (unchanged s);
     }
+
+pub returns-then-sum-bound-clause-after : goal.returns-then-sum-bound-clause-after
+returns-then-sum-bound-clause-after c =
+    let r = row_of c.args.row.now in
+    let s = c.args.sets.now in
+    let small : Small s = search rules in
+    c.empty_all.ensures.after
+    ∙ ap (λ ms. cuts (λ m v. false) ms s) c.members.ensures
+    ∙ sym (all_cut r s small
+    (subst (λ b. (b -ℤ total (low s) r.members) <ℤ pos 0) c.bound-bound.ensures.value
+    (subst (λ t. (c.bound-bound.result -ℤ t) <ℤ pos 0) c.lowest_terms-sum.ensures.sum
+    (over_bound c.bound-bound.result c.lowest_terms-sum.result.1 c.bound-bound.ensures.near c.lowest_terms-sum.ensures.near c.if-sum-bound.true))))
