@@ -6,7 +6,7 @@ use rows::kind::Kind;
 use rows::reading::accept_bytes;
 use rows::row::Row;
 use rows::trace::Trace;
-use search::propagation::{has_empty, propagate};
+use search::propagation::propagate;
 use sets::ValueSet;
 use std::io;
 
@@ -54,10 +54,10 @@ pub(crate) fn narrow_title(rt: &HostRuntime, texts: &[Vec<u8>]) -> io::Result<()
         .collect::<Vec<ValueSet>>(rt.alloc())?;
     let voices = sets.len();
     let rows = read_rows(rt, texts, voices)?;
-    propagate::<FourKinds>(&rows, &mut sets);
+    let emptied = propagate::<FourKinds>(&rows, &mut sets);
     print_voices(rt, &sets)?;
     print_traces(rt, &rows, &sets)?;
-    if has_empty(&sets) {
+    if emptied {
         println!(rt; "some voice has no place left")
     } else {
         println!(rt; "a round changes nothing more")

@@ -6,14 +6,14 @@ use Rattle.std.proofs.lemmas.Bool.{not-false}
 use Rattle.rows.specs.declared.row.Row.{Row}
 use Rattle.rows.specs.Rows.{RowData, Meaning}
 use Rattle.rows.specs.Views.{row_of, rows_of}
-use Rattle.rows.specs.Laws.{Accepted}
+use Rattle.rows.specs.Laws.{Laws, Accepted}
 use Rattle.sets.specs.Placings.{same, changed, some_empty}
 use Rattle.sets.proofs.Lists.{same_self, same_is}
-use Rattle.search.specs.Placed.{AllAccepted}
+use Rattle.search.specs.Placed.{AllAccepted, Ready}
 use Rattle.search.specs.Propagation.{Round, round, round_from}
 use Rattle.search.specs.Results.{Stable, RoundDone}
 use Rattle.search.proofs.Scans.{Turned, round_none, round_stop}
-use Rattle.search.proofs.PropagationFacts.{idle_is}
+use Rattle.search.proofs.PropagationFacts.{idle_is, round_ready}
 
 -- such rows change nothing in what is left of a round
 stable_round : (m : Meaning) (seen : Bool) (rows : List RowData) (s : List ℕ) → Stable m rows s → round_from m seen rows s ≡ record { sets = s; again = seen }
@@ -75,6 +75,10 @@ module _ (m : Meaning) (rows : List Row) (quiet : ℕ) where
   going_stops i r s u t due w z e =
       let is : record { sets = t; again = false } ≡ round m (rows_of rows) s = sym (round_stop m (is_some due) rows i r u t true w refl z) ∙ e in
       record { after = ap (λ (x : Round). x.sets) is; value = ap (λ (x : Round). x.again) is; rest = tt }
+
+-- rows and sets are ready after a round that has another after it
+pub due_ready : (m : Meaning) → Laws m → (rows : List Row) (s t : List ℕ) (k : ℕ) → Ready m (rows_of rows) s → RoundDone m rows s (Some k) t → Ready m (rows_of rows) t
+due_ready m L rows s t k h d = subst (Ready m (rows_of rows)) (sym d.after) (round_ready m L (rows_of rows) s h (sym d.value))
 
 -- the row at i is accepted
 pub accepted_row : (m : Meaning) (rows : List Row) (n i : ℕ) (r : Row) → AllAccepted m (rows_of rows) n → i < length rows → r ≡ get_or rows i r → Accepted m (row_of r) n

@@ -27,9 +27,12 @@ pub fn has_empty(sets: &[ValueSet]) -> bool
 
 // Each row has a turn in order, until one empties a set. Where none has changed a set yet, the rows from `quiet` on need none: theirs left these sets as they
 // are. Says whether another round is due, since some turn changed a set and none emptied one: the rows from the answered one on left the sets as they are then.
-fn run_round<B: Bank>(rows: &[Row], sets: &mut [ValueSet], quiet: usize) -> Option<usize>
-    ensures { Ready B.Bank.meaning (rows_of rows.now) sets.old → Stable B.Bank.meaning (rows_of (drop quiet rows.now)) sets.old
-        → RoundDone B.Bank.meaning rows.now sets.old result sets.new }
+// And says whether a turn emptied a set.
+fn run_round<B: Bank>(rows: &[Row], sets: &mut [ValueSet], quiet: usize) -> (Option<usize>, bool)
+    ensures done { Ready B.Bank.meaning (rows_of rows.now) sets.old → Stable B.Bank.meaning (rows_of (drop quiet rows.now)) sets.old
+        → RoundDone B.Bank.meaning rows.now sets.old result.0 sets.new }
+    ensures emptied { Ready B.Bank.meaning (rows_of rows.now) sets.old → Stable B.Bank.meaning (rows_of (drop quiet rows.now)) sets.old
+        → result.1 ≡ some_empty sets.new }
 {
     let mut due = None;
     let mut end = quiet;
@@ -39,24 +42,27 @@ fn run_round<B: Bank>(rows: &[Row], sets: &mut [ValueSet], quiet: usize) -> Opti
         }
         if B::turn(row, sets) {
             if has_empty(sets) {
-                return None;
+                return (None, true);
             }
             due = Some(i + 1);
             end = rows.len();
         }
     }
-    due
+    (due, false)
 }
 
-// Rounds as long as another is due. What a turn answers is known where its row is accepted and no set is empty.
-pub fn propagate<B: Bank>(rows: &[Row], sets: &mut [ValueSet])
-    ensures { Ready B.Bank.meaning (rows_of rows.now) sets.old → sets.new ≡ propagated B.Bank.meaning (rows_of rows.now) sets.old }
+// Rounds as long as another is due; says whether a set is empty then. What a turn answers is known where its row is accepted and no set is empty.
+pub fn propagate<B: Bank>(rows: &[Row], sets: &mut [ValueSet]) -> bool
+    ensures after { Ready B.Bank.meaning (rows_of rows.now) sets.old → sets.new ≡ propagated B.Bank.meaning (rows_of rows.now) sets.old }
+    ensures value { Ready B.Bank.meaning (rows_of rows.now) sets.old → result ≡ some_empty sets.new }
 {
     let mut quiet = rows.len();
     for _ in 0..=MOST_VALUES * sets.len() as u128 {
-        let Some(rest) = run_round::<B>(rows, sets, quiet) else {
-            break;
+        let (due, emptied) = run_round::<B>(rows, sets, quiet);
+        let Some(rest) = due else {
+            return emptied;
         };
         quiet = rest;
     }
+    false
 }

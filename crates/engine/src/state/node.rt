@@ -12,7 +12,7 @@ use crate::keys::KeyBuffer;
 use crate::node::Node;
 use rows::bank::Bank;
 use rows::row::Row;
-use search::propagation::{has_empty, propagate};
+use search::propagation::propagate;
 use sets::{ValueSet, is_fixed};
 use stores::store::Store;
 
@@ -49,8 +49,7 @@ pub(crate) fn classify<B: Bank, S: Store>(
     ensures value { node B.Bank.meaning (rows_of rows.now) (S.Store.behaviour.view (S.Store.state store.now)) from sets.new ≡ node_of result sets.new }
     ensures branches { Branches result from sets.new }
 {
-    propagate::<B>(rows, sets);
-    if has_empty(sets) {
+    if propagate::<B>(rows, sets) {
         return Node::Dead;
     }
     let Some(v) = first_open(sets, from) else {

@@ -1,10 +1,10 @@
 use Rattle.std.proofs.Common.{◌≡◌, ℕ, suc, ◌+◌, ◌-◌, ◌*◌, true, length, le_refl, sym, refl, ap, ◌∙◌, subst, arith}
 use Rattle.std.proofs.lemmas.List.{at_drop_all}
 use Rattle.rows.specs.Views.{rows_of}
-use Rattle.search.specs.Placed.{Ready}
 use Rattle.search.specs.Propagation.{rounds}
-use Rattle.search.specs.Results.{Stable}
-use Rattle.search.proofs.PropagationFacts.{round_ready}
+use Rattle.search.specs.Results.{Stable, RoundDone}
+use Rattle.search.proofs.Boxes.{proper_full}
+use Rattle.search.proofs.Quiet.{due_ready}
 use Rattle.search.proofs.Scans.{rounds_more}
 use Rattle.search.proofs.propagation.propagate.Goals as goal
 
@@ -24,10 +24,19 @@ loop-preserved g c = λ ready.
     let most = 64 * length c.args.sets.now in
     let one_less : suc (most - (c.loop.counter + 1)) ≡ most - c.loop.counter = omega arith in
     let now = c.loop.invariant ready in
-    let done = c.in-Some.ensures now.2 now.1 in (
-      ap (λ (n : ℕ). rounds m rows n c.run_round.new.sets) one_less
-          ∙ sym (rounds_more m rows (most - c.loop.counter) c.loop.sets c.run_round.new.sets true done.after done.value refl)
+    let t = c.run_round-due.new.sets in
+    let done = subst (λ due. RoundDone m c.args.rows.now c.loop.sets due t) c.in-Some.is (c.run_round-due.ensures.done now.2 now.1) in (
+      ap (λ (n : ℕ). rounds m rows n t) one_less
+          ∙ sym (rounds_more m rows (most - c.loop.counter) c.loop.sets t true done.after done.value refl)
           ∙ now.0,
       done.rest,
-      subst (Ready m rows) (sym done.after) (round_ready m g.met.B.Bank.lawful rows c.loop.sets now.2 (sym done.value)),
+      due_ready m g.met.B.Bank.lawful c.args.rows.now c.loop.sets t c.in-Some.rest now.2 done,
     )
+
+pub returns-in-Some-clause-value : goal.returns-in-Some-clause-value
+returns-in-Some-clause-value g c = λ ready.
+    let m = g.B.Bank.meaning in
+    let now = c.loop.invariant ready in
+    let t = c.run_round-due.new.sets in
+    let done = subst (λ due. RoundDone m c.args.rows.now c.loop.sets due t) c.in-Some.is (c.run_round-due.ensures.done now.2 now.1) in
+    sym (proper_full t (due_ready m g.met.B.Bank.lawful c.args.rows.now c.loop.sets t c.in-Some.rest now.2 done).proper)

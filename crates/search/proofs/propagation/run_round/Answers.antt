@@ -5,6 +5,7 @@ use Rattle.sets.proofs.Lists.{same_is}
 use Rattle.rows.specs.Views.{rows_of}
 use Rattle.search.specs.Placed.{Ready}
 use Rattle.search.specs.Propagation.{round, round_from}
+use Rattle.search.proofs.Boxes.{proper_full}
 use Rattle.search.proofs.PropagationFacts.{turn_ready}
 use Rattle.search.proofs.Scans.{Turned, round_idle, round_more}
 use Rattle.search.proofs.Quiet.{Going, going_idle, going_over, going_ends, going_stops, accepted_row}
@@ -47,8 +48,8 @@ loop-i-preserved g c = λ h s.
           )))
     ]
 
-pub returns-then-has_empty : goal.returns-then-has_empty
-returns-then-has_empty g c = λ h s.
+pub returns-then-has_empty-clause-done : goal.returns-then-has_empty-clause-done
+returns-then-has_empty-clause-done g c = λ h s.
     let m = g.B.Bank.meaning in
     let rows = c.args.rows.now in
     let i = c.loop-i.i in
@@ -59,12 +60,18 @@ returns-then-has_empty g c = λ h s.
     record { inside = c.loop-i-test.true; row_is = c.index-rows-i.is; left = c.turn.ensures.after; told = sym c.if-turn.true ∙ c.turn.ensures.value taken now.2.proper } in
     going_stops m rows c.args.quiet i c.index-rows-i.result c.args.sets.now c.loop-i.sets t c.loop-i.due w (sym c.has_empty.ensures ∙ c.if-has_empty.true) now.0
 
-pub returns-then-i-end : goal.returns-then-i-end
-returns-then-i-end g c = λ h s.
+pub returns-then-i-end-clause-done : goal.returns-then-i-end-clause-done
+returns-then-i-end-clause-done g c = λ h s.
     let now = c.loop-i.invariant h s in
     going_ends g.B.Bank.meaning c.args.rows.now c.args.quiet c.loop-i.i c.args.sets.now c.loop-i.sets c.loop-i.due c.loop-i.end now.1 c.if-i-end.true now.0
 
-pub returns-after-loop-i : goal.returns-after-loop-i
-returns-after-loop-i g c = λ h s.
+pub returns-after-loop-i-clause-done : goal.returns-after-loop-i-clause-done
+returns-after-loop-i-clause-done g c = λ h s.
     let now = c.loop-i.invariant h s in
     going_over g.B.Bank.meaning c.args.rows.now c.args.quiet c.loop-i.i c.args.sets.now c.loop-i.sets c.loop-i.due c.loop-i.end now.1 c.loop-i-test.false now.0
+
+pub returns-then-i-end-clause-emptied : goal.returns-then-i-end-clause-emptied
+returns-then-i-end-clause-emptied g c = λ h s. sym (proper_full c.loop-i.sets (c.loop-i.invariant h s).2.proper)
+
+pub returns-after-loop-i-clause-emptied : goal.returns-after-loop-i-clause-emptied
+returns-after-loop-i-clause-emptied g c = λ h s. sym (proper_full c.loop-i.sets (c.loop-i.invariant h s).2.proper)
