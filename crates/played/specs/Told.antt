@@ -1,7 +1,7 @@
 -- What holds of calls made one after the other on a new table, and of two such histories.
 use Rattle.std.specs.Prelude.{◌≡◌, ℕ, ◌<◌, true, ◌↔◌, List, [], ◌∷◌, length, take, slice_index_or}
 use Rattle.rows.specs.Rows.{Meaning}
-use Rattle.stores.specs.Stores.{View, Later}
+use Rattle.stores.specs.Behaviours.{Behaviour}
 use Rattle.search.specs.Calls.{Table, Call, Answer}
 use Rattle.search.specs.Calls.Call.{solve, wipe}
 use Rattle.search.specs.Calls.Answer.{done}
@@ -24,21 +24,22 @@ told calls answers = told_on [] calls answers
 abbrev pub first_told : ℕ → List Call → List Answer → List (Call × Answer)
 first_told n calls answers = told (take n calls) (take n answers)
 
--- the table and the store that a history led to, over the store that was given, and what stands then
-pub record Leads (m : Meaning) (given : View) (h : List (Call × Answer)) : Type 0 where
-  pub table : Table
-  pub view : View
-  pub history : History m h table view
-  pub over : Later given view
-  pub stands : Stands m table view
+-- Over a store with the behaviour b, in the state in which it was given:
 
--- these answers were given to these calls, made one after the other on a new table over the store that was given
-pub record Played (m : Meaning) (given : View) (calls : List Call) (answers : List Answer) : Type 0 where
+-- the table, and the state of the store, that a history led to, and what stands then
+pub record Leads (b : Behaviour) (m : Meaning) (given : b.State) (h : List (Call × Answer)) : Type 0 where
+  pub table : Table
+  pub state : b.State
+  pub history : History b m given h table state
+  pub stands : Stands m table (b.view state)
+
+-- these answers were given to these calls, made one after the other on a new table
+pub record Played (b : Behaviour) (m : Meaning) (given : b.State) (calls : List Call) (answers : List Answer) : Type 0 where
   -- each call has an answer
   pub answered : length answers ≡ length calls
   -- all calls together, and the first n of them, led to a table of which all stands that stands after a history
-  pub leads : Leads m given (told calls answers)
-  pub each_leads : (n : ℕ) → Leads m given (first_told n calls answers)
+  pub leads : Leads b m given (told calls answers)
+  pub each_leads : (n : ℕ) → Leads b m given (first_told n calls answers)
   -- each answer says what it must of the voices and rows that the calls before it gave
   pub tells : (n : ℕ) → n < length calls → Tells m (first_told n calls answers) (slice_index_or calls n wipe) (slice_index_or answers n done)
 

@@ -1,8 +1,7 @@
 // One call performed.
 ghost use Rattle.std.specs.Prelude.{◌≡◌, true, false, is_ok, IfOk, OnErr};
 ghost use Rattle.search.specs.Calls.{Call as CallOf};
-ghost use Rattle.planner.specs.Shown.{model, store_in, done_answer};
-ghost use Rattle.planner.specs.Lasting.{Done, Lasts};
+ghost use Rattle.planner.specs.Shown.{CallDone, CallLasts, done_answer};
 ghost use Rattle.played.specs.Meant.{call_of, answer_of, wants_memory};
 
 use crate::call::{Answer, Call};
@@ -29,8 +28,8 @@ fn perform_solve<B: Bank, S: Store>(
     heap: Global,
     budget: u64,
 ) -> Result<Answer, AllocError>
-    ensures does { IfOk result (λ a. Done B.Bank.meaning (model table.old) (store_in S.Store.view table.old) (CallOf.solve budget) (answer_of a) (model table.new) (store_in S.Store.view table.new)) }
-    ensures lasts { IfOk result (λ a. Lasts B.Bank.meaning (model table.old) (store_in S.Store.view table.old) (CallOf.solve budget) (answer_of a) (model table.new) (store_in S.Store.view table.new)) }
+    ensures does { IfOk result (λ a. CallDone table.old (CallOf.solve budget) (answer_of a) table.new) }
+    ensures lasts { IfOk result (λ a. CallLasts table.old (CallOf.solve budget) (answer_of a) table.new) }
     ensures kept { OnErr result (table.new ≡ table.old) }
 {
     let mut values = vec![in heap; 0u8; MOST_VOICES]?;
@@ -52,8 +51,8 @@ fn perform_read<B: Bank, S: Store>(
     heap: Global,
     bytes: &[u8],
 ) -> Result<Answer, AllocError>
-    ensures does { IfOk result (λ a. Done B.Bank.meaning (model table.now) (store_in S.Store.view table.now) (CallOf.read bytes.now) (answer_of a) (model table.now) (store_in S.Store.view table.now)) }
-    ensures lasts { IfOk result (λ a. Lasts B.Bank.meaning (model table.now) (store_in S.Store.view table.now) (CallOf.read bytes.now) (answer_of a) (model table.now) (store_in S.Store.view table.now)) }
+    ensures does { IfOk result (λ a. CallDone table.now (CallOf.read bytes.now) (answer_of a) table.now) }
+    ensures lasts { IfOk result (λ a. CallLasts table.now (CallOf.read bytes.now) (answer_of a) table.now) }
 {
     let mut buffer = bytes.to_vec(heap)?;
     match table.read(&mut buffer) {
@@ -68,8 +67,8 @@ pub fn perform<B: Bank, S: Store>(
     heap: Global,
     call: &Call,
 ) -> Result<Answer, AllocError>
-    ensures does { IfOk result (λ a. Done B.Bank.meaning (model table.old) (store_in S.Store.view table.old) (call_of call.now) (answer_of a) (model table.new) (store_in S.Store.view table.new)) }
-    ensures lasts { IfOk result (λ a. Lasts B.Bank.meaning (model table.old) (store_in S.Store.view table.old) (call_of call.now) (answer_of a) (model table.new) (store_in S.Store.view table.new)) }
+    ensures does { IfOk result (λ a. CallDone table.old (call_of call.now) (answer_of a) table.new) }
+    ensures lasts { IfOk result (λ a. CallLasts table.old (call_of call.now) (answer_of a) table.new) }
     ensures kept { OnErr result (table.new ≡ table.old) }
     ensures answers { wants_memory call.now ≡ false → is_ok result ≡ true }
 {

@@ -16,7 +16,7 @@ pub fn play<B: Bank, S: Store + Drop>(
     store: S,
     calls: &[Call],
 ) -> Result<Vec<Answer>, AllocError>
-    ensures { IfOk result (λ answers. Played B.Bank.meaning (S.Store.view store) (calls_of calls.now) (answers_of answers.items)) }
+    ensures { IfOk result (λ answers. Played S.Store.behaviour B.Bank.meaning (S.Store.state store) (calls_of calls.now) (answers_of answers.items)) }
 {
     let mut table: Table<B, S> = Table::make(heap, store)?;
     let mut answers = Vec::with_capacity(heap, calls.len())?;
@@ -34,8 +34,8 @@ pub fn play_both<B: Bank, S: Store + Drop, C: Bank, R: Store + Drop>(
     other_store: R,
     other_calls: &[Call],
 ) -> Result<(Vec<Answer>, Vec<Answer>), AllocError>
-    ensures first { IfOk result (λ both. Played B.Bank.meaning (S.Store.view store) (calls_of calls.now) (answers_of both.0.items)) }
-    ensures second { IfOk result (λ both. Played C.Bank.meaning (R.Store.view other_store) (calls_of other_calls.now) (answers_of both.1.items)) }
+    ensures first { IfOk result (λ both. Played S.Store.behaviour B.Bank.meaning (S.Store.state store) (calls_of calls.now) (answers_of both.0.items)) }
+    ensures second { IfOk result (λ both. Played R.Store.behaviour C.Bank.meaning (R.Store.state other_store) (calls_of other_calls.now) (answers_of both.1.items)) }
     ensures agreed { IfOk result (λ both. Agreed B.Bank.meaning (calls_of calls.now) (answers_of both.0.items) C.Bank.meaning (calls_of other_calls.now) (answers_of both.1.items)) }
 {
     let answers = play::<B, S>(heap, store, calls)?;

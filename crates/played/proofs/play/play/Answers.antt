@@ -1,10 +1,12 @@
 use Rattle.std.proofs.Common.{◌≡◌, length, take, vec_items, arith}
-use Rattle.search.proofs.LaterFacts.{later_on, does_later}
 use Rattle.planner.specs.Shown.{model, store_in}
 use Rattle.played.specs.Meant.{calls_of, answers_of}
 use Rattle.played.specs.Told.{told}
 use Rattle.played.proofs.Telling.{one_more, all_played}
 use Rattle.played.proofs.play.play.Goals as goal
+
+pub loop-call-init : goal.loop-call-init
+loop-call-init g c = (c.in_ok-answers.ensures.len, omega (arith, c.in_ok-answers.ensures.capacity), (0, c.in_ok-table.ensures))
 
 pub loop-call-preserved : goal.loop-call-preserved
 loop-call-preserved g c =
@@ -19,11 +21,10 @@ loop-call-preserved g c =
       omega (arith, c.push_reserved.ensures.capacity, c.loop-call.invariant.1),
       (
         last.lost before.0,
-        one_more {m = g.B.Bank.meaning} {t = model after (last.lost before.0)} {v = store_in g.S.Store.view after} xs ys
+        one_more g.S.Store.behaviour g.B.Bank.meaning (g.S.Store.state c.args.store) {t = model after (last.lost before.0)} {s = store_in after} xs ys
             (vec_items c.push_reserved.new.self) i c.call-item.result c.in_ok-perform.field-0 c.loop-call-test.true many c.call-item.is
-            c.push_reserved.ensures.items (last.history (told (calls_of (take i xs)) (answers_of ys)) before.0 before.1),
+            c.push_reserved.ensures.items (last.history (g.S.Store.state c.args.store) (told (calls_of (take i xs)) (answers_of ys)) before.0 before.1),
       ),
-      later_on c.loop-call.invariant.3 (does_later (c.in_ok-perform.ensures.does.does before.0)),
     )
 
 pub returns : goal.returns
@@ -33,5 +34,5 @@ returns g c =
     let t = c.loop-call.table in
     let before = c.loop-call.invariant.2 in
     let many : length ys ≡ i = omega (arith, c.loop-call.answers.ok, c.loop-call.invariant.0) in
-    all_played g.B.Bank.meaning g.met.B.Bank.lawful (g.S.Store.view c.args.store) c.args.calls.now ys i (model t before.0) (store_in g.S.Store.view t) c.loop-call-test.false
-    c.loop-call.auto.call-index-end many c.loop-call.invariant.3 before.1
+    all_played g.S.Store.behaviour g.B.Bank.meaning g.met.B.Bank.lawful (g.S.Store.state c.args.store) c.args.calls.now ys i (model t before.0) (store_in t) c.loop-call-test.false
+    c.loop-call.auto.call-index-end many before.1

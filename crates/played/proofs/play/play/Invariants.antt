@@ -1,5 +1,4 @@
 use Rattle.std.proofs.Common.{◌≡◌, ℕ, ◌≤◌, length, take, vec_items, vec_len, vec_capacity}
-use Rattle.stores.specs.Stores.{Later}
 use Rattle.search.specs.Histories.{History}
 use Rattle.planner.specs.Shown.{model, store_in}
 use Rattle.played.specs.Meant.{calls_of, answers_of}
@@ -10,5 +9,5 @@ abbrev pub invariant-loop-call : goal.invariant-loop-call
 invariant-loop-call g l =
     (vec_len l.answers ≡ l.call-index)
     × (length l.calls ≤ vec_capacity l.answers)
-    × ((j : ℕ) × History g.B.Bank.meaning (told (calls_of (take l.call-index l.calls)) (answers_of (vec_items l.answers))) (model l.table j) (store_in g.S.Store.view l.table))
-    × Later (g.S.Store.view l.fn.store) (store_in g.S.Store.view l.table)
+    × ((j : ℕ)
+    × History g.S.Store.behaviour g.B.Bank.meaning (g.S.Store.state l.fn.store) (told (calls_of (take l.call-index l.calls)) (answers_of (vec_items l.answers))) (model l.table j) (store_in l.table))

@@ -10,6 +10,6 @@ returns g c =
     record {
       first = p;
       second = q;
-      agreed = agreed_by g.B.Bank.meaning g.C.Bank.meaning g.met.B.Bank.lawful g.met.C.Bank.lawful (calls_of c.args.calls.now) (calls_of c.args.other_calls.now)
-          (answers_of (vec_items c.in_ok-answers.answers)) (answers_of (vec_items c.in_ok-others.others)) (g.S.Store.view c.args.store) (g.R.Store.view c.args.other_store) p q;
+      agreed = agreed_by g.S.Store.behaviour g.R.Store.behaviour g.B.Bank.meaning g.C.Bank.meaning g.met.B.Bank.lawful g.met.C.Bank.lawful (calls_of c.args.calls.now) (calls_of c.args.other_calls.now)
+          (answers_of (vec_items c.in_ok-answers.answers)) (answers_of (vec_items c.in_ok-others.others)) (g.S.Store.state c.args.store) (g.R.Store.state c.args.other_store) p q;
     }
