@@ -1,11 +1,14 @@
--- What the code's calls and answers mean.
+-- What the code's calls, answers and replies mean.
 use Rattle.std.specs.Prelude.{Bool, true, false, List, map, vec_items}
 use Rattle.search.specs.Calls as calls
+use Rattle.engine.specs.Searches.{outcome_of}
 use Rattle.planner.specs.Refusals.{refusal_number}
 use Rattle.played.specs.declared.call.Call.{Call}
 use Rattle.played.specs.declared.call.Call.TheVariants.{Declare, Post, Solve, Read, Wipe}
 use Rattle.played.specs.declared.call.Answer.{Answer}
 use Rattle.played.specs.declared.call.Answer.TheVariants.{Done, Refused, Found, None, Stopped, Wrote}
+use Rattle.played.specs.declared.reply.Reply.{Reply}
+use Rattle.played.specs.declared.reply.Standing.{Standing}
 
 abbrev pub call_of : Call → calls.Call
 call_of (Declare set) = calls.Call.declare set
@@ -33,5 +36,12 @@ answer_of (Wrote count bytes) = calls.Answer.wrote count (vec_items bytes)
 abbrev pub calls_of : List Call → List calls.Call
 calls_of calls = map call_of calls
 
-abbrev pub answers_of : List Answer → List calls.Answer
-answers_of answers = map answer_of answers
+abbrev pub answers_of : List Reply → List calls.Answer
+answers_of replies = map (λ r. answer_of r.answer) replies
+
+abbrev pub standings_of : List Reply → List Standing
+standings_of replies = map (λ r. r.standing) replies
+
+-- how the search of a table stands
+abbrev pub standing_of : calls.Table → Standing
+standing_of t = record { outcome = outcome_of t.place; opened = t.opened; exhausted = t.exhausted }

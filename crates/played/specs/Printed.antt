@@ -1,8 +1,11 @@
--- What an answer is printed as.
+-- What an answer and a reply are printed as.
 use Rattle.std.specs.Prelude.{ℕ, List, ◌++◌, flat_map, codes, decimal, vec_items}
+use Rattle.engine.specs.Outcomes.{outcome_name}
 use Rattle.planner.specs.Refusals.{refusal_number}
 use Rattle.played.specs.declared.call.Answer.{Answer}
 use Rattle.played.specs.declared.call.Answer.TheVariants.{Done, Refused, Found, None, Stopped, Wrote}
+use Rattle.played.specs.declared.reply.Reply.{Reply}
+use Rattle.played.specs.declared.reply.Standing.{Standing}
 
 -- numbers, a space before each
 abbrev pub spaced : List ℕ → List ℕ
@@ -16,3 +19,11 @@ answer_text (Found values) = codes "found" ++ spaced (vec_items values)
 answer_text None = codes "none"
 answer_text Stopped = codes "stopped"
 answer_text (Wrote count bytes) = codes "wrote " ++ (decimal count ++ (codes ":" ++ spaced (vec_items bytes)))
+
+-- as `stopped 20 7`
+abbrev pub standing_text : Standing → List ℕ
+standing_text s = outcome_name s.outcome ++ (codes " " ++ (decimal s.opened ++ (codes " " ++ decimal s.exhausted)))
+
+-- as `refused 13 | stopped 20 7`
+abbrev pub reply_text : Reply → List ℕ
+reply_text r = answer_text r.answer ++ (codes " | " ++ standing_text r.standing)

@@ -1,4 +1,4 @@
-// The calls of a table and their answers, as values. An answer is printed as a line of text.
+// The calls of a table and their answers, as values. An answer is printed as text.
 ghost use Rattle.std.specs.Prelude.{Some};
 ghost use Rattle.std.specs.Fmt.{WritesOnOk};
 ghost use Rattle.played.specs.Printed.{spaced, answer_text};

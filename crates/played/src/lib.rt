@@ -4,3 +4,4 @@
 pub mod call;
 pub mod perform;
 pub mod play;
+pub mod reply;

@@ -1,29 +1,34 @@
 // Histories of calls played.
 ghost use Rattle.std.specs.Prelude.{IfOk};
-ghost use Rattle.played.specs.Meant.{calls_of, answers_of};
+ghost use Rattle.played.specs.Meant.{calls_of, answers_of, standings_of};
 ghost use Rattle.played.specs.Told.{Played, Agreed};
 
-use crate::call::{Answer, Call};
+use crate::call::Call;
 use crate::perform::perform;
+use crate::reply::{Reply, Standing};
 use planner::table::Table;
 use rows::bank::Bank;
 use std::alloc::{AllocError, Global};
 use stores::store::Store;
 
-// Makes a table over the store and performs the calls on it, one after the other. Answers every call.
+// Makes a table over the store and performs the calls on it, one after the other. Replies to every call.
 pub fn play<B: Bank, S: Store + Drop>(
     heap: Global,
     store: S,
     calls: &[Call],
-) -> Result<Vec<Answer>, AllocError>
-    ensures { IfOk result (λ answers. Played S.Store.behaviour B.Bank.meaning (S.Store.state store) (calls_of calls.now) (answers_of answers.items)) }
+) -> Result<Vec<Reply>, AllocError>
+    ensures { IfOk result (λ replies. Played S.Store.behaviour B.Bank.meaning (S.Store.state store) (calls_of calls.now) (answers_of replies.items) (standings_of replies.items)) }
 {
     let mut table: Table<B, S> = Table::make(heap, store)?;
-    let mut answers = Vec::with_capacity(heap, calls.len())?;
+    let mut replies = Vec::with_capacity(heap, calls.len())?;
     for call in calls {
-        answers.push_reserved(perform(&mut table, heap, call)?);
+        // the call goes first
+        replies.push_reserved(Reply {
+            answer: perform(&mut table, heap, call)?,
+            standing: Standing::of(&table),
+        });
     }
-    Ok(answers)
+    Ok(replies)
 }
 
 // Plays two histories, each on a table of its own, over any banks and stores.
@@ -33,12 +38,12 @@ pub fn play_both<B: Bank, S: Store + Drop, C: Bank, R: Store + Drop>(
     calls: &[Call],
     other_store: R,
     other_calls: &[Call],
-) -> Result<(Vec<Answer>, Vec<Answer>), AllocError>
-    ensures first { IfOk result (λ both. Played S.Store.behaviour B.Bank.meaning (S.Store.state store) (calls_of calls.now) (answers_of both.0.items)) }
-    ensures second { IfOk result (λ both. Played R.Store.behaviour C.Bank.meaning (R.Store.state other_store) (calls_of other_calls.now) (answers_of both.1.items)) }
+) -> Result<(Vec<Reply>, Vec<Reply>), AllocError>
+    ensures first { IfOk result (λ both. Played S.Store.behaviour B.Bank.meaning (S.Store.state store) (calls_of calls.now) (answers_of both.0.items) (standings_of both.0.items)) }
+    ensures second { IfOk result (λ both. Played R.Store.behaviour C.Bank.meaning (R.Store.state other_store) (calls_of other_calls.now) (answers_of both.1.items) (standings_of both.1.items)) }
     ensures agreed { IfOk result (λ both. Agreed B.Bank.meaning (calls_of calls.now) (answers_of both.0.items) C.Bank.meaning (calls_of other_calls.now) (answers_of both.1.items)) }
 {
-    let answers = play::<B, S>(heap, store, calls)?;
+    let replies = play::<B, S>(heap, store, calls)?;
     let others = play::<C, R>(heap, other_store, other_calls)?;
-    Ok((answers, others))
+    Ok((replies, others))
 }
