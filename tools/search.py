@@ -206,6 +206,12 @@ class Table:
             return "refused 16"
         return " ".join([f"wrote {len(found)}:", *map(str, found + buffer[len(found):])])
 
+    def standing(self):
+        """What the search has come to, the nodes opened and those exhausted."""
+        s = self.search
+        word = "found" if isinstance(s.result, list) else s.result or "stopped"
+        return f"{word} {s.opened} {s.exhausted}"
+
     def call(self, line):
         name, *words = line.split()
         if name == "declare":
@@ -230,11 +236,12 @@ def history():
 
 def histories():
     calls = list(history())
-    for name, words in [("bare store", 0), ("shelf of 4096 words", 4096), ("shelf of 44 words", 44)]:
-        print(f"{name}:")
-        table = Table(words)
-        for line in calls:
-            print(table.call(line))
+    for words in [4096, 44]:
+        for name, space in [("bare store", 0), (f"shelf of {words} words", words)]:
+            print(f"{name}:")
+            table = Table(space)
+            for line in calls:
+                print(f"{table.call(line)} | {table.standing()}")
 
 # ---- what `plan` prints of a sheet
 
