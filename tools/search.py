@@ -1,6 +1,6 @@
 #!/usr/bin/env python3
 """The search and the calls of docs/RULES.md over plain sets of Python, written independently of the crates: what the programs `plan`, `harbour` and `histories` should print.
-It is neither proved nor needed to build. usage: tools/search.py sheet < SHEET; tools/search.py harbour > crates/harbour/stdout; tools/search.py histories > crates/histories/stdout"""
+It is neither proved nor needed to build. usage: tools/search.py sheet [WORDS] < SHEET, over a shelf of so many words, 4096 if left out; tools/search.py harbour > crates/harbour/stdout; tools/search.py histories > crates/histories/stdout"""
 import os
 import sys
 
@@ -272,8 +272,8 @@ def load(table, bs):
             return f"{said} at {at} in {'row' if int(said.split()[1]) < 10 else 'table'}"
         at += length
 
-def sheet():
-    table = Table(4096)
+def sheet(words="4096"):
+    table = Table(int(words))
     fault = load(table, sys.stdin.buffer.read()[:20_000])
     if fault:
         return print(fault)
@@ -318,4 +318,4 @@ def harbour():
             print(f"  {n} {v}")
 
 if __name__ == "__main__":
-    {"sheet": sheet, "harbour": harbour, "histories": histories}[sys.argv[1]]()
+    {"sheet": sheet, "harbour": harbour, "histories": histories}[sys.argv[1]](*sys.argv[2:])

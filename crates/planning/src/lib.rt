@@ -15,6 +15,8 @@ use sheets::load::load;
 use std::alloc::{AllocError, Global};
 use stores::store::Store;
 
+pub mod standard;
+
 // How many bytes of a sheet are read at most, and the budget of the search.
 pub const MOST_SHEET: usize = 20_000;
 
