@@ -88,7 +88,7 @@ def copy_tree():
         copy_crate(it)
     make_template(scratch('tree/crates/template'))
     write_changed(scratch('tree/crates/measure/src/main.rt'), read(os.path.join(PERF, 'measure', 'main.rt.txt')))
-    own = [f'measure:{lines["plan"].split(":")[1]} anyhow', 'template:']
+    own = [f'measure:{lines["plan"].split(":")[1]}', 'template:']
     write_changed(scratch('tree/crates.txt'), '\n'.join([lines[it] for it in crates] + own) + '\n')
 
 

@@ -43,7 +43,7 @@ fn print_placing(rt: &HostRuntime, table: &mut Table<OneKind, Bare>) -> io::Resu
     Ok(())
 }
 
-fn main(rt: HostRuntime) -> io::Result<()> {
+fn main(rt: HostRuntime) -> anyhow::Result<()> {
     let mut table: Table<OneKind, Bare> = Table::make(rt.alloc(), Bare)?;
     let _ = table.declare(OPENING);
     let _ = table.declare(OPENING);
@@ -52,5 +52,6 @@ fn main(rt: HostRuntime) -> io::Result<()> {
         Ok(()) => println!(rt; "one row posted, one scrapped")?,
         Err(refusal) => println!(rt; "refused {refusal}")?,
     }
-    print_placing(&rt, &mut table)
+    print_placing(&rt, &mut table)?;
+    Ok(())
 }

@@ -3,7 +3,6 @@
 
 use narrow::narrow_title;
 use solve::solve_title;
-use std::io;
 use stores::shelf::Shelf;
 
 mod narrow;
@@ -14,7 +13,7 @@ mod title;
 // How many words the shelf has.
 const SHELF_WORDS: usize = 4096;
 
-fn main(rt: HostRuntime) -> io::Result<()> {
+fn main(rt: HostRuntime) -> anyhow::Result<()> {
     let texts = title::rows(rt.alloc())?;
     let name = title::NAME;
     let voices = title::VOICES.len();
@@ -22,5 +21,6 @@ fn main(rt: HostRuntime) -> io::Result<()> {
     println!(rt; "title: {name}, {voices} voices, {rows} rows")?;
     narrow_title(&rt, &texts)?;
     let mut words = vec![in rt.alloc(); 0u64; SHELF_WORDS]?;
-    solve_title(&rt, Shelf::new(&mut words), &texts)
+    solve_title(&rt, Shelf::new(&mut words), &texts)?;
+    Ok(())
 }

@@ -1,13 +1,19 @@
 // Reads a sheet from standard input and prints its report.
 #![tactic(auto)]
 
+use anyhow::{Context, Result};
 use planning::MOST_SHEET;
 use planning::standard::planned;
-use std::io::{self, Read, Write};
+use std::io::{Read, Write};
 
-fn main(rt: HostRuntime) -> io::Result<()> {
-    let mut sheet = Vec::with_capacity(rt.alloc(), MOST_SHEET)?;
-    rt.stdin().take(MOST_SHEET as u64).read_to_end(&mut sheet)?;
-    let text = planned(rt.alloc(), &sheet)?;
-    rt.stdout().write_all(&text)
+fn main(rt: HostRuntime) -> Result<()> {
+    let mut sheet = Vec::with_capacity(rt.alloc(), MOST_SHEET).context("no memory for the sheet")?;
+    rt.stdin()
+        .take(MOST_SHEET as u64)
+        .read_to_end(&mut sheet)
+        .context("the sheet cannot be read")?;
+    let text = planned(rt.alloc(), &sheet).context("no memory to plan in")?;
+    rt.stdout()
+        .write_all(&text)
+        .context("the report cannot be written")
 }
