@@ -1,9 +1,10 @@
-// Small searches through the table's calls: a row of the kind A over some voices, solved with each budget in turn.
+// Small searches through the table's calls: a row over some voices, of the kind A or of the loose kind, solved with each budget in turn.
 use all_different::AllDifferent;
 use engine::outcome::Outcome;
+use loose::Loose;
 use planner::refusal::Refusal;
 use planner::table::Table;
-use rows::bank::Alone;
+use rows::bank::{Alone, Bank};
 use sets::ValueSet;
 use std::test::Fail;
 use stores::bare::Bare;
@@ -17,18 +18,24 @@ static FIVE: [u8; 22] = [
     b'A', 5, b'M', 0, 0, 0, b'M', 1, 0, 0, b'M', 2, 0, 0, b'M', 3, 0, 0, b'M', 4, 0, 0,
 ];
 
+// A row of the loose kind, which holds for every placing.
+static ANY: [u8; 6] = [b'T', 1, b'M', 0, 0, 0];
+
+// A bank of the kind A.
+type OneKind = Alone<AllDifferent>;
+
 // What a search has come to: the last answer of Solve, and the counts.
 type Searched = (Result<Outcome, Refusal>, u64, u64);
 
 // The search over a new table with these opening sets and this row, solved with each budget in turn.
-fn solved<S: Store + Drop>(
+fn solved<B: Bank, S: Store + Drop>(
     rt: &HostRuntime,
     store: S,
     opening: &[ValueSet],
     row: &[u8],
     budgets: &[u64],
 ) -> Result<Searched, Fail> {
-    let mut table: Table<Alone<AllDifferent>, S> = Table::make(rt.alloc(), store)?;
+    let mut table: Table<B, S> = Table::make(rt.alloc(), store)?;
     for set in opening {
         let _ = table.declare(*set);
     }
@@ -51,7 +58,10 @@ static BUDGETS: [(&[u64], Searched); 4] = [
 #[test]
 fn three_voices(rt: HostRuntime) -> Result<(), Fail> {
     for (budgets, expected) in &BUDGETS {
-        assert_eq!(rt; solved(&rt, Bare, &[6, 6, 6], &THREE, budgets)?, *expected);
+        assert_eq!(rt;
+            solved::<OneKind, Bare>(&rt, Bare, &[6, 6, 6], &THREE, budgets)?,
+            *expected
+        );
     }
     Ok(())
 }
@@ -61,11 +71,11 @@ fn five_voices(rt: HostRuntime) -> Result<(), Fail> {
     let opening = [6, 6, 24, 24, 24];
     let mut words = [0u64; 64];
     assert_eq!(rt;
-        solved(&rt, Shelf::new(&mut words), &opening, &FIVE, &[9])?,
+        solved::<OneKind, Shelf>(&rt, Shelf::new(&mut words), &opening, &FIVE, &[9])?,
         (Ok(Outcome::None), 5, 2)
     );
     assert_eq!(rt;
-        solved(&rt, Bare, &opening, &FIVE, &[9])?,
+        solved::<OneKind, Bare>(&rt, Bare, &opening, &FIVE, &[9])?,
         (Ok(Outcome::None), 7, 3)
     );
     Ok(())
@@ -74,8 +84,17 @@ fn five_voices(rt: HostRuntime) -> Result<(), Fail> {
 #[test]
 fn no_voices(rt: HostRuntime) -> Result<(), Fail> {
     assert_eq!(rt;
-        solved(&rt, Bare, &[], &THREE, &[1])?,
+        solved::<OneKind, Bare>(&rt, Bare, &[], &THREE, &[1])?,
         (Ok(Outcome::Found), 1, 0)
+    );
+    Ok(())
+}
+
+#[test]
+fn any_placing(rt: HostRuntime) -> Result<(), Fail> {
+    assert_eq!(rt;
+        solved::<Alone<Loose>, Bare>(&rt, Bare, &[6, 24], &ANY, &[9])?,
+        (Ok(Outcome::Found), 3, 0)
     );
     Ok(())
 }
