@@ -236,12 +236,11 @@ def history():
 
 def histories():
     calls = list(history())
-    for words in [4096, 44]:
-        for name, space in [("bare store", 0), (f"shelf of {words} words", words)]:
-            print(f"{name}:")
-            table = Table(space)
-            for line in calls:
-                print(f"{table.call(line)} | {table.standing()}")
+    for name, words in [("bare store", 0), ("shelf of 4096 words", 4096), ("shelf of 44 words", 44)]:
+        print(f"{name}:")
+        table = Table(words)
+        for line in calls:
+            print(f"{table.call(line)} | {table.standing()}")
 
 # ---- what `plan` prints of a sheet
 

@@ -40,7 +40,7 @@ fn play_beside_bare(
 }
 
 // Prints the store's name, and the replies over it.
-fn print_replies(rt: &HostRuntime, name: &str, replies: &[Reply]) -> io::Result<()> {
+fn print_replies(rt: &HostRuntime, name: &str, replies: &[Reply]) -> anyhow::Result<()> {
     println!(rt; "{name}:")?;
     for reply in replies {
         println!(rt; "{reply}")?;
@@ -51,12 +51,11 @@ fn print_replies(rt: &HostRuntime, name: &str, replies: &[Reply]) -> io::Result<
 fn main(rt: HostRuntime) -> anyhow::Result<()> {
     let text = io::read_to_string(rt.alloc(), rt.stdin())?;
     let calls = parse_calls(rt.alloc(), &text)?;
-    for count in [LARGE, SMALL] {
-        let shelf = format!(in rt.alloc(); "shelf of {count} words")?;
-        let mut words = vec![in rt.alloc(); 0u64; count]?;
-        let (over_bare, over_shelf) = play_beside_bare(rt.alloc(), &mut words, &calls)?;
-        print_replies(&rt, "bare store", &over_bare)?;
-        print_replies(&rt, &shelf, &over_shelf)?;
-    }
-    Ok(())
+    let mut large = vec![in rt.alloc(); 0u64; LARGE]?;
+    let (over_bare, over_large) = play_beside_bare(rt.alloc(), &mut large, &calls)?;
+    let mut small = vec![in rt.alloc(); 0u64; SMALL]?;
+    let (_, over_small) = play_beside_bare(rt.alloc(), &mut small, &calls)?;
+    print_replies(&rt, "bare store", &over_bare)?;
+    print_replies(&rt, "shelf of 4096 words", &over_large)?;
+    print_replies(&rt, "shelf of 44 words", &over_small)
 }

@@ -1,7 +1,7 @@
 // The job as the programs do it: the four kinds, over a shelf of 4,096 words.
 ghost use Rattle.std.specs.Prelude.{[], take, IfOk};
 ghost use Rattle.kinds.specs.FourKinds.{four_kinds};
-ghost use Rattle.stores.specs.Shelves.{shelf_view};
+ghost use Rattle.stores.specs.ShelfLaws.{shelf};
 ghost use Rattle.planning.specs.Planned.{most_sheet, Planned};
 
 use crate::plan;
@@ -14,7 +14,7 @@ const SHELF_WORDS: usize = 4096;
 
 // What is to be printed of the sheet, of which the first 20,000 bytes count.
 pub fn planned(heap: Global, sheet: &[u8]) -> Result<Vec<u8>, AllocError>
-    ensures { IfOk result (λ text. Planned four_kinds (shelf_view [] 4096) (take most_sheet sheet.now) text.items) }
+    ensures { IfOk result (λ text. Planned shelf four_kinds (record { held = []; room = 4096 }) (take most_sheet sheet.now) text.items) }
 {
     let mut words = vec![in heap; 0u64; SHELF_WORDS]?;
     plan::<FourKinds, Shelf>(heap, Shelf::new(&mut words), sheet)

@@ -1,14 +1,14 @@
 use Rattle.std.specs.Prelude.{◌≡◌, [], length, take, IfOk}
 use Rattle.std.proofs.Common.{subst, ap, ap₂, ◌∙◌}
 use Rattle.kinds.specs.FourKinds.{four_kinds}
-use Rattle.stores.specs.Stores.{View}
-use Rattle.stores.specs.Shelves.{shelf_view, room_of}
-use Rattle.stores.specs.Shown.{view_of}
+use Rattle.stores.specs.Shelves.{ShelfState, shelf_state, room_of}
+use Rattle.stores.specs.ShelfLaws.{shelf}
+use Rattle.stores.specs.Shown.{state_of}
 use Rattle.planning.specs.Planned.{most_sheet, Planned}
 use Rattle.planning.proofs.standard.planned.Goals as goal
 
 pub returns : goal.returns
 returns c =
     let long : length c.new.result.words.now ≡ 4096 = ap length c.new.ensures.words ∙ c.deref_mut.ensures.len ∙ c.in_ok-words.ensures.len in
-    let same : view_of c.new.result ≡ shelf_view [] 4096 = ap₂ shelf_view c.new.ensures.used (ap room_of long) in
-    subst (λ (v : View). IfOk c.plan.result (λ text. Planned four_kinds v (take most_sheet c.args.sheet.now) text.items)) same c.plan.ensures
+    let same : state_of c.new.result ≡ record { held = []; room = 4096 } = ap₂ shelf_state c.new.ensures.used (ap room_of long) in
+    subst (λ (s : ShelfState). IfOk c.plan.result (λ text. Planned shelf four_kinds s (take most_sheet c.args.sheet.now) text.items)) same c.plan.ensures
