@@ -3,7 +3,7 @@
 
 ghost use Rattle.std.specs.Prelude.{◌≡◌, true, [], take, IfOk};
 ghost use Rattle.kinds.specs.FourKinds.{four_kinds};
-ghost use Rattle.stores.specs.Shelves.{shelf_view};
+ghost use Rattle.stores.specs.ShelfLaws.{shelf};
 ghost use Rattle.planning.specs.Planned.{most_sheet, Planned};
 
 use anyhow::{Context, Result};
@@ -22,7 +22,7 @@ const NAMES: [&str; 5] = [
 
 // Whether this is what is to be printed of the sheet.
 fn is_report(heap: Global, report: &[u8], sheet: &[u8]) -> Result<bool, AllocError>
-    ensures { IfOk result (λ same. same ≡ true → Planned four_kinds (shelf_view [] 4096) (take most_sheet sheet.now) report.now) }
+    ensures { IfOk result (λ same. same ≡ true → Planned shelf four_kinds (record { held = []; room = 4096 }) (take most_sheet sheet.now) report.now) }
 {
     let text = planned(heap, sheet)?;
     Ok(text.as_slice() == report)
