@@ -1,9 +1,9 @@
 -- It does only what any store may do.
-use Rattle.std.specs.Prelude.{◌≡◌, ℕ, zero, suc, Bool, true, false, cond, not, ◌&&◌, ◌||◌, List, [], ◌∷◌, length, refl}
-use Rattle.std.proofs.Common.{ap, sym, ◌∙◌, subst, ltb, leb, arith}
-use Rattle.std.proofs.lemmas.Bool.{or_left, or_right, and_left, both_ways}
+use Rattle.std.specs.Prelude.{◌≡◌, ℕ, Bool, true, false, cond, ◌||◌, List, [], ◌∷◌, length, refl}
+use Rattle.std.proofs.Common.{ap, sym, subst}
+use Rattle.std.proofs.lemmas.Bool.{or_left, or_right, both_ways}
 use Rattle.sets.specs.Placings.{same}
-use Rattle.stores.specs.Stores.{View, Emptied, Keeps, member, fits, distinct_keys}
+use Rattle.stores.specs.Stores.{Emptied, Keeps, member, fits}
 use Rattle.stores.specs.Behaviours.{Behaviour}
 use Rattle.stores.specs.Bare.{never_fits}
 use Rattle.stores.specs.declared.store.Stored.{Stored}

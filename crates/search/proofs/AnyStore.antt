@@ -1,5 +1,5 @@
 -- What every store may do, as a behaviour; and each behaviour's searches are among its searches.
-use Rattle.std.proofs.Common.{◌≡◌, ℕ, true, false, List, ◌∷◌, length, refl}
+use Rattle.std.proofs.Common.{◌≡◌, ℕ, true, false, List, refl}
 use Rattle.std.proofs.lemmas.Bool.{both_ways}
 use Rattle.rows.specs.Rows.{RowData, Meaning}
 use Rattle.stores.specs.Keys.{key}
@@ -7,7 +7,7 @@ use Rattle.stores.specs.Stores.{View, Emptied, Keeps}
 use Rattle.stores.specs.Behaviours.{Behaviour}
 use Rattle.stores.specs.declared.store.Stored.TheVariants.{Kept, Lost}
 use Rattle.search.specs.Search.{Level, Place, BacksUp, Opens, Steps}
-use Rattle.search.specs.Calls.{Table, Call, Answer, over, Goes, Solved, Does}
+use Rattle.search.specs.Calls.{Table, Call, Answer, over, Goes, Does}
 use Rattle.search.specs.Histories.{History}
 use Rattle.search.specs.Behaviours.{BacksNew, OpensNew, StepsNew}
 

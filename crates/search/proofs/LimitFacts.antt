@@ -1,10 +1,10 @@
 -- What no history passes: the limits of a table.
-use Rattle.std.proofs.Common.{◌≡◌, ℕ, ◌+◌, ◌≤◌, not, ltb, leb, List, [], ◌∷◌, ◌++◌, length, drop, sym, ap, subst, inl, inr, arith}
+use Rattle.std.proofs.Common.{◌≡◌, ℕ, ◌+◌, ◌≤◌, not, ltb, leb, List, [], ◌∷◌, ◌++◌, length, sym, ap, subst, inl, inr, arith}
 use Rattle.std.proofs.lemmas.Bool.{both_ways, or_parts, and_cases, leb-false, ltb-false, not-false, cases_Bool}
 use Rattle.std.proofs.lemmas.List.{length_push}
 use Rattle.sets.specs.Placings.{Proper}
 use Rattle.rows.specs.Rows.{RowData, Meaning}
-use Rattle.rows.specs.Bytes.{head_length, lettered, counted, right_length, marked, decode, encode, total_bytes, LaidOut, Layout}
+use Rattle.rows.specs.Bytes.{decode, encode, total_bytes, LaidOut}
 use Rattle.rows.proofs.Layouts.{bytes_both_ways}
 use Rattle.stores.specs.Stores.{View}
 use Rattle.search.proofs.AnyStore.{any}

@@ -71,7 +71,7 @@ module _ (store : Behaviour) (d : Decided store) (m : Meaning) where
 
   -- ---- what a relation gives is what the function gives
 
-  backs_is : {rows : List RowData} {ls : List Level} {v : store.State} {p : Place} {w : store.State} {n k : ℕ} (B : BacksUp store m rows ls v p w n k) 
+  backs_is : {rows : List RowData} {ls : List Level} {v : store.State} {p : Place} {w : store.State} {n k : ℕ} (B : BacksUp store m rows ls v p w n k)
       → backs rows ls v ≡ record { place = p; state = w; exhausts = n; loses = k }
   backs_is (BacksUp.root v) = refl
   backs_is {rows} (BacksUp.next l ls v z) =
@@ -94,14 +94,14 @@ module _ (store : Behaviour) (d : Decided store) (m : Meaning) where
       ∙ ap₂ (λ (a : Stored) (x : store.State). up a (backs rows ls x)) (sym (d.answer_only v w (key m rows l.sets) Lost K)) (sym (d.after_only v w (key m rows l.sets) Lost K))
       ∙ ap (up Lost) (backs_is B)
 
-  opens_is : {rows : List RowData} {b : List ℕ} {ls : List Level} {v : store.State} {p : Place} {w : store.State} {n k : ℕ} (O : Opens store m rows b ls v p w n k) 
+  opens_is : {rows : List RowData} {b : List ℕ} {ls : List Level} {v : store.State} {p : Place} {w : store.State} {n k : ℕ} (O : Opens store m rows b ls v p w n k)
       → opens rows b ls v ≡ record { place = p; state = w; exhausts = n; loses = k }
   opens_is {rows} {b} {ls} {v} (Opens.finds p h) = ap (opened rows ls v) h
   opens_is {rows} {b} {ls} {v} (Opens.branches l h) = ap (opened rows ls v) h
   opens_is {rows} {b} {ls} {v} (Opens.dies p w n k h B) = ap (opened rows ls v) h ∙ backs_is B
   opens_is {rows} {b} {ls} {v} (Opens.hits p w n k h B) = ap (opened rows ls v) h ∙ backs_is B
 
-  step_is : {voices : List ℕ} {rows : List RowData} {p : Place} {v : store.State} {q : Place} {w : store.State} {n k : ℕ} (S : Steps store m voices rows p v q w n k) 
+  step_is : {voices : List ℕ} {rows : List RowData} {p : Place} {v : store.State} {q : Place} {w : store.State} {n k : ℕ} (S : Steps store m voices rows p v q w n k)
       → step voices rows p v ≡ record { place = q; state = w; exhausts = n; loses = k }
   step_is (Steps.first v w p n k O) = opens_is O
   step_is (Steps.again l ls v w p n k O) = opens_is O

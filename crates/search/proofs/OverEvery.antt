@@ -1,9 +1,8 @@
 -- The laws of the search over every behaviour of a store.
-use Rattle.std.proofs.Common.{◌≡◌, ℕ, ◌≤◌, true, false, ◌↔◌, List, ◌∷◌, ◌++◌}
+use Rattle.std.proofs.Common.{◌≡◌, ℕ, true}
 use Rattle.rows.specs.Rows.{Meaning}
-use Rattle.rows.specs.Laws.{Laws}
 use Rattle.stores.specs.Behaviours.{Behaviour}
-use Rattle.search.specs.Calls.{Table, Call, Answer, Judgement, judged, over, Does}
+use Rattle.search.specs.Calls.{Table, Answer, Judgement, judged, over, Does}
 use Rattle.search.specs.Calls.Call.{solve}
 use Rattle.search.specs.Theorems.{SearchStands, BranchesLowest, LevelsRise, NeverTwice, AnswersStand, ReadsStand, TablesGiven, ResultsAgree, SolveKeepsBudget, LimitsStand, StoresAgree}
 use Rattle.search.proofs.AnyStore.{history_any, goes_any, steps_any, does_any, steps_new, goes_over}

@@ -4,8 +4,7 @@ use Rattle.sets.specs.Placings.{some_empty, all_fixed, values, Proper}
 use Rattle.rows.specs.Rows.{RowData, Meaning}
 use Rattle.rows.specs.Laws.{Laws}
 use Rattle.stores.specs.Keys.{key}
-use Rattle.stores.specs.Stores.{View}
-use Rattle.stores.specs.Behaviours.{Behaviour, Decided}
+use Rattle.stores.specs.Behaviours.{Behaviour}
 use Rattle.search.specs.Propagation.{propagated}
 use Rattle.search.specs.Search.{Place, Level, Steps}
 use Rattle.search.specs.Placed.{AllAccepted, Lawful, SameLeast}

@@ -1,5 +1,5 @@
 -- The law of sheets, and what a Load comes to after any calls.
-use Rattle.std.proofs.Common.{true, false, is_err, Result, ◌≡◌, ℕ, List, [], ◌∷◌, sym, refl, ap, ◌∙◌, subst, subst₂, arith}
+use Rattle.std.proofs.Common.{true, false, is_err, Result, ◌≡◌, ℕ, List, ◌∷◌, sym, refl, ap, ◌∙◌, subst, subst₂, arith}
 use Rattle.rows.specs.Rows.{Meaning}
 use Rattle.rows.specs.Laws.{Laws}
 use Rattle.rows.specs.Bytes.{Bytes}
@@ -72,9 +72,11 @@ module _ (b : Behaviour) (m : Meaning) (L : Laws m) (bs : List ℕ) {s w y r : b
       subst₂ (λ (z : Table) (q : b.State). History b m g (loaded_after h voices rows) z q) (sym ((a refl).0 ∙ e)) (sym (a refl).1) (f g ((wipe, done) ∷ h) wiped)
   history_by res' (RecordsRead.faulted cause place first e f) d a t g h H =
       let wiped : History b m g ((wipe, done) ∷ h) empty w = History.then h t empty s w wipe done H tt (Does.wipes w l.wiped) in
-      let calls = loaded_after h first.voices first.rows in
-      (first, subst (λ (z : Table). History b m g ((wipe, done) ∷ loaded_after h first.voices first.rows) z r) (sym (d refl).0)
-      (History.then calls (begun first.voices first.rows) empty y r wipe done (f g ((wipe, done) ∷ h) wiped) tt (Does.wipes r (d refl).1)))
+      let calls = loaded_after h first.voices first.rows in (
+        first,
+        subst (λ (z : Table). History b m g ((wipe, done) ∷ loaded_after h first.voices first.rows) z r) (sym (d refl).0)
+            (History.then calls (begun first.voices first.rows) empty y r wipe done (f g ((wipe, done) ∷ h) wiped) tt (Does.wipes r (d refl).1)),
+      )
 
   stands_by : (o : Outcome) (g : b.State) (h : List (Call × Answer)) → LoadHistory b m g h bs o u r → Stands m u (b.view r)
   stands_by (accepted voices rows) g h H = search_stands b m L g (loaded_after h voices rows) u r H

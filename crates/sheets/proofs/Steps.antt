@@ -1,5 +1,5 @@
 -- One record read by the code, and the records read so far.
-use Rattle.std.proofs.Common.{◌≡◌, ℕ, zero, suc, ◌+◌, ◌-◌, ◌<◌, ◌≤◌, true, false, List, [], ◌∷◌, ◌++◌, length, drop, is_err, Some, None, Ok, Err, Option, Result, sym, refl, ap, ◌∙◌, subst, subst₂, arith}
+use Rattle.std.proofs.Common.{◌≡◌, ℕ, zero, suc, ◌+◌, ◌-◌, ◌<◌, ◌≤◌, List, [], ◌∷◌, ◌++◌, length, drop, Some, None, Ok, Err, Option, Result, sym, refl, ap, ◌∙◌, subst, subst₂, arith}
 use Rattle.std.proofs.lemmas.List.{length-drop, length-take, drop-drop}
 use Rattle.rows.specs.Rows.{Meaning}
 use Rattle.rows.specs.Laws.{Laws}
@@ -12,13 +12,10 @@ use Rattle.planner.specs.declared.refusal.Refusal.{Refusal}
 use Rattle.planner.specs.Refusals.{refusal_number}
 use Rattle.sheets.specs.declared.fault.Cause.{Cause}
 use Rattle.sheets.specs.declared.fault.Cause.TheVariants.{Declined}
-use Rattle.sheets.specs.declared.fault.Layer.{Layer}
-use Rattle.sheets.specs.declared.fault.SheetFault.{SheetFault}
 use Rattle.sheets.specs.Causes.{cause_number, cause_layer, cause_offset}
-use Rattle.sheets.specs.Laws.{FirstFault}
 use Rattle.sheets.specs.Reading.{Item, if_passes, item_at, Outcome, read_from, read_on, read_sheet}
 use Rattle.sheets.specs.Reading.Item.{last, voice, row, fault}
-use Rattle.sheets.specs.Reading.Outcome.{accepted, refused}
+use Rattle.sheets.specs.Reading.Outcome.{refused}
 use Rattle.sheets.specs.Loading.{Step, step_of, item_step, item_table, Unsearched, ItemStored, ItemRead, Emptyings, Fills, RecordsRead}
 use Rattle.sheets.specs.Loading.Step.{ends, goes, fails}
 use Rattle.sheets.proofs.Items.{voice_here, row_here}
@@ -183,7 +180,7 @@ module _ (b : Behaviour) (m : Meaning) (bs : List ℕ) (w : b.State) (t : Table)
       by last e f g k =
           let rest = on last e in (
             subst (λ (o : Outcome). RecordsRead b m bs w u x o (Ok tt)) rest.2
-            (RecordsRead.ended t.voices t.rows g (subst (Fills b m w t.voices t.rows) (sym k) S.read.fills)),
+                (RecordsRead.ended t.voices t.rows g (subst (Fills b m w t.voices t.rows) (sym k) S.read.fills)),
             subst (Emptyings b w) (sym k) S.emptied,
           )
       by (voice s) e f g k = let z : ◌≡◌ {A = ℕ} 0 1 = cc in absurd (omega arith)

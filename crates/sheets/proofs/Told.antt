@@ -10,7 +10,7 @@ use Rattle.writing.specs.WrittenRows.{written_row}
 use Rattle.writing.proofs.RowBytes.{row_same}
 use Rattle.stores.specs.Behaviours.{Behaviour}
 use Rattle.stores.specs.Bare.{bare}
-use Rattle.search.specs.Calls.{Table, begun, empty, Call, Answer, Judgement, reasons, judged, Does}
+use Rattle.search.specs.Calls.{Table, begun, Call, Answer, Judgement, reasons, judged, Does}
 use Rattle.search.specs.Calls.Call.{declare, post}
 use Rattle.search.specs.Calls.Answer.{done}
 use Rattle.search.specs.Histories.{History}

@@ -10,7 +10,7 @@ use Rattle.search.specs.Placed.{AllAccepted}
 use Rattle.search.specs.Results.{Limited}
 use Rattle.sheets.specs.declared.fault.Layer.{Layer}
 use Rattle.sheets.specs.Sheets.{records, sheet}
-use Rattle.sheets.specs.Reading.{Item, item_at, Outcome, read_sheet}
+use Rattle.sheets.specs.Reading.{Item, item_at, read_sheet}
 use Rattle.sheets.specs.Reading.Outcome.{accepted, refused}
 
 -- voices and rows that a table can have: within its limits, and the bank accepts each row

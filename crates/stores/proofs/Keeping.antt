@@ -3,7 +3,7 @@ use Rattle.std.proofs.Common.{◌≡◌, ℕ, ◌<◌, ◌≤◌, Bool, true, fa
 use Rattle.std.proofs.lemmas.Bool.{and_parts, ltb-true, leb-true}
 use Rattle.stores.specs.Stores.{member, fits}
 use Rattle.stores.specs.Behaviours.{TurnsAway}
-use Rattle.stores.specs.Shelves.{ShelfState, shelf_view, shelf_after}
+use Rattle.stores.specs.Shelves.{ShelfState, shelf_view}
 use Rattle.stores.specs.ShelfLaws.{shelf}
 use Rattle.stores.specs.declared.store.Stored.{Stored}
 use Rattle.stores.specs.declared.store.Stored.TheVariants.{Kept, Lost}
@@ -23,18 +23,16 @@ pub keeps_held : (s : ShelfState) (k : List ℕ) → member k s.held ≡ true �
 keeps_held s k m = (sym (ap (λ (b : Bool). answer_at s k b (fits (length k) (shelf_view s).space)) m), sym (ap (λ (b : Bool). after_at s k b (fits (length k) (shelf_view s).space)) m))
 
 pub keeps_more : (s : ShelfState) (k : List ℕ) → member k s.held ≡ false → fits (length k) (shelf_view s).space ≡ true → shelf.keeps s k Kept (pushed_state s k)
-keeps_more s k m f =
-    (
-      sym (ap (λ (b : Bool). answer_at s k b (fits (length k) (shelf_view s).space)) m ∙ ap (λ (b : Bool). answer_at s k false b) f),
-      sym (ap (λ (b : Bool). after_at s k b (fits (length k) (shelf_view s).space)) m ∙ ap (λ (b : Bool). after_at s k false b) f),
-    )
+keeps_more s k m f = (
+  sym (ap (λ (b : Bool). answer_at s k b (fits (length k) (shelf_view s).space)) m ∙ ap (λ (b : Bool). answer_at s k false b) f),
+  sym (ap (λ (b : Bool). after_at s k b (fits (length k) (shelf_view s).space)) m ∙ ap (λ (b : Bool). after_at s k false b) f),
+)
 
 pub keeps_lost : (s : ShelfState) (k : List ℕ) → member k s.held ≡ false → fits (length k) (shelf_view s).space ≡ false → shelf.keeps s k Lost s
-keeps_lost s k m f =
-    (
-      sym (ap (λ (b : Bool). answer_at s k b (fits (length k) (shelf_view s).space)) m ∙ ap (λ (b : Bool). answer_at s k false b) f),
-      sym (ap (λ (b : Bool). after_at s k b (fits (length k) (shelf_view s).space)) m ∙ ap (λ (b : Bool). after_at s k false b) f),
-    )
+keeps_lost s k m f = (
+  sym (ap (λ (b : Bool). answer_at s k b (fits (length k) (shelf_view s).space)) m ∙ ap (λ (b : Bool). answer_at s k false b) f),
+  sym (ap (λ (b : Bool). after_at s k b (fits (length k) (shelf_view s).space)) m ∙ ap (λ (b : Bool). after_at s k false b) f),
+)
 
 -- keys of so many words do not fit
 pub turned_away : (s : ShelfState) (words : ℕ) → fits words (shelf_view s).space ≡ false → TurnsAway shelf s words

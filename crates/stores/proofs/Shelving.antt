@@ -6,7 +6,7 @@ use Rattle.std.proofs.Math.Seq.{get_or-append_seam}
 use Rattle.std.specs.Str.{bytes_eq}
 use Rattle.sets.specs.Placings.{same}
 use Rattle.stores.specs.Stores.{member, fits}
-use Rattle.stores.specs.Shelves.{hash_of, bucket, header, words_of, newest, entry, written, keys_in, shelved, recent, Whole, Indexed, room_of, ShelfState, shelf_state, shelf_view}
+use Rattle.stores.specs.Shelves.{hash_of, bucket, header, words_of, newest, entry, written, keys_in, shelved, recent, Whole, Indexed, room_of, shelf_state, shelf_view}
 use Rattle.stores.specs.ShelfLaws.{member_push}
 use Rattle.stores.proofs.Keeping.{Fitting, fitting, pushed_state}
 use Rattle.sets.proofs.Lists.{same_is}

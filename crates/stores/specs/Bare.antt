@@ -2,7 +2,7 @@
 use Rattle.std.specs.Prelude.{◌≡◌, ℕ, zero, suc, List, [], length, false, refl}
 use Rattle.std.proofs.Common.{ltb, leb, arith}
 use Rattle.std.proofs.lemmas.Bool.{and_right, lt-leb}
-use Rattle.stores.specs.Stores.{View, Emptied, Keeps, fits}
+use Rattle.stores.specs.Stores.{View, Keeps, fits}
 use Rattle.stores.specs.Behaviours.{Behaviour}
 use Rattle.stores.specs.declared.store.Stored.{Stored}
 use Rattle.stores.specs.declared.store.Stored.TheVariants.{Kept, Lost}

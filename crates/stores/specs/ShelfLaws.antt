@@ -5,7 +5,7 @@ use Rattle.std.proofs.lemmas.List.{length-append}
 use Rattle.std.proofs.lemmas.Bool.{or_right, or_parts, and_parts, cases_Bool, both_ways}
 use Rattle.sets.specs.Placings.{same}
 use Rattle.sets.proofs.Lists.{same_is, same_self}
-use Rattle.stores.specs.Stores.{View, Emptied, Joined, Keeps, member, distinct_keys, fits}
+use Rattle.stores.specs.Stores.{Emptied, Keeps, member, distinct_keys, fits}
 use Rattle.stores.specs.Behaviours.{Behaviour}
 use Rattle.stores.specs.Shelves.{ShelfState, shelf_view, shelf_emptied, shelf_answer, shelf_after}
 use Rattle.stores.specs.declared.store.Stored.{Stored}

@@ -1,4 +1,4 @@
-use Rattle.std.proofs.Common.{◌≡◌, ℕ, ◌≤◌, false, cond, length, sym, refl, subst, arith}
+use Rattle.std.proofs.Common.{◌≤◌, cond, length, refl, arith}
 use Rattle.rows.specs.Views.{rows_of}
 use Rattle.stores.specs.Keys.{key}
 use Rattle.stores.specs.Stores.{member}

@@ -1,4 +1,4 @@
-use Rattle.std.proofs.Common.{◌≡◌, [], refl}
+use Rattle.std.proofs.Common.{[], refl}
 use Rattle.stores.specs.Behaviours.{Decided}
 use Rattle.search.proofs.OutcomeFacts.{one_history}
 use Rattle.loose.specs.Newest.{newest_answer, newest_after}

@@ -1,10 +1,10 @@
-use Rattle.std.proofs.Common.{◌≡◌, true, false, length, sym, ap, ◌∙◌, subst, arith}
+use Rattle.std.proofs.Common.{length, sym, ap, ◌∙◌, subst, arith}
 use Rattle.std.proofs.lemmas.List.{length-take-le}
 use Rattle.stores.specs.Stores.{fits}
-use Rattle.stores.specs.Shelves.{ShelfState, shelf_view}
+use Rattle.stores.specs.Shelves.{ShelfState}
 use Rattle.stores.specs.ShelfLaws.{shelf}
 use Rattle.stores.specs.Shown.{used_words, room, state_of}
-use Rattle.stores.specs.declared.store.Stored.TheVariants.{Kept, Lost}
+use Rattle.stores.specs.declared.store.Stored.TheVariants.{Kept}
 use Rattle.stores.proofs.Keeping.{keeps_held, keeps_more, keeps_lost}
 use Rattle.stores.proofs.Shelving.{space_free, state_more}
 use Rattle.stores.proofs.shelf.ops.ShelfStore.keep.Goals as goal

@@ -1,4 +1,4 @@
-use Rattle.std.proofs.Common.{◌≡◌, false, IsTrue, not, sym, ap, ◌∙◌, arith}
+use Rattle.std.proofs.Common.{◌≡◌, false, sym, ap, ◌∙◌, arith}
 use Rattle.stores.specs.Stores.{fits}
 use Rattle.stores.specs.Shown.{used_words, room, state_of}
 use Rattle.stores.proofs.Keeping.{turned_away}
