@@ -1,5 +1,5 @@
 -- Sums of signed products that stay near 0.
-use Rattle.std.proofs.Common.{◌≡◌, ℕ, suc, ◌+◌, ◌*◌, ◌^◌, ◌<◌, ◌≤◌, true, false, cond, List, [], ◌∷◌, ◌++◌, length, get_or, take, ℤ, pos, negsuc, ◌+ℤ◌, ◌*ℤ◌, neg_ℤ, sym, ap, ◌∙◌, ap₂, le_refl, arith, lit<, take_all, w16, w64, SFits, to_z, of_z}
+use Rattle.std.proofs.Common.{◌≡◌, ℕ, suc, ◌+◌, ◌*◌, ◌^◌, ◌<◌, ◌≤◌, true, false, cond, List, [], ◌∷◌, ◌++◌, length, get_or, take, ℤ, pos, negsuc, ◌+ℤ◌, ◌*ℤ◌, neg_ℤ, sym, ap, ◌∙◌, ap₂, le_refl, arith, lit<, take_all, w16, w32, w64, SFits, to_z, of_z}
 use Rattle.std.proofs.lemmas.Nat.{mul-le}
 use Rattle.std.proofs.lemmas.List.{take_more}
 use Rattle.std.proofs.lemmas.Int.{ints, to_z-of_z}
@@ -33,6 +33,10 @@ pub near_fits : (n : ℕ) (z : ℤ) → n < 2 ^ 63 → Near n z → SFits w64 z
 near_fits n (pos m) k h = record { sfits = omega (arith, ints, h.above) }
 near_fits n (negsuc m) k h = record { sfits = omega (arith, ints, h.below) }
 
+half_fits : (n : ℕ) (z : ℤ) → n < 2 ^ 31 → Near n z → SFits w32 z
+half_fits n (pos m) k h = record { sfits = omega (arith, ints, h.above) }
+half_fits n (negsuc m) k h = record { sfits = omega (arith, ints, h.below) }
+
 pub near_wider : (n k : ℕ) (z : ℤ) → n ≤ k → Near n z → Near k z
 near_wider n k z l h = record { above = omega (arith, ints, h.above); below = omega (arith, ints, h.below) }
 
@@ -64,6 +68,13 @@ Summed f ms i z = (z ≡ total f (take i ms)) × Near (2097152 * i) z
 -- and the code's number is that number
 pub back : (n : ℕ) (z : ℤ) → n < 2 ^ 63 → Near n z → to_z w64 (of_z w64 z) ≡ z
 back n z h k = to_z-of_z w64 z (near_fits n z h k)
+
+-- also in half the bits
+pub half : (n : ℕ) (z : ℤ) → n < 2 ^ 31 → Near n z → to_z w32 (of_z w32 z) ≡ z
+half n z h k = to_z-of_z w32 z (half_fits n z h k)
+
+pub back_half : (n : ℕ) (z : ℤ) → n < 2 ^ 31 → Near n z → to_z w32 (of_z w32 (to_z w64 (of_z w64 z))) ≡ z
+back_half n z h k = ap (λ x. to_z w32 (of_z w32 x)) (back n z (omega arith) k) ∙ half n z h k
 
 pub summed_fits : (i : ℕ) (z x : ℤ) → i < 32 → Near (2097152 * i) z → Near 2097152 x → SFits w64 (z +ℤ to_z w64 (of_z w64 x))
 summed_fits i z x l h k =

@@ -123,8 +123,8 @@ fn keep_within(member: Member, sets: &mut [ValueSet], slack: i64) -> bool
 }
 
 // The least that each member adds, in order, the sum of these, and a number that no member's greatest is further above its least. All in one pass, since most of a
-// turn is spent here, and the terms in an array beside the members, since a turn takes no memory.
-fn lowest_terms(row: &Row, sets: &[ValueSet]) -> ([i64; MOST_MEMBERS], i64, i64)
+// turn is spent here, and the terms in an array beside the members, since a turn takes no memory; in half the bits, so that less is cleared.
+fn lowest_terms(row: &Row, sets: &[ValueSet]) -> ([i32; MOST_MEMBERS], i64, i64)
     ensures long { length result.0 ≡ 32 }
     ensures terms { take (length (row_of row.now).members) result.0 ≡ map (low sets.now) (row_of row.now).members }
     ensures small { (k : ℕ) → Near (32768 * 64) (slice_index_or result.0 k (pos 0)) }
@@ -138,7 +138,7 @@ fn lowest_terms(row: &Row, sets: &[ValueSet]) -> ([i64; MOST_MEMBERS], i64, i64)
     // by index: what is known of a term is known by its member's place
     for (i, m) in row.members().iter().enumerate() {
         let (low, high) = ends(*m, sets);
-        lows[i] = low;
+        lows[i] = low as i32;
         sum += low;
         widest = widest.max(high - low);
     }
@@ -222,7 +222,7 @@ impl Kind for Linear {
         let mut took = false;
         // by index: what `keep_within` needs of a term is known by the member's place
         for (i, m) in row.members().iter().enumerate() {
-            took |= keep_within(*m, sets, spare + lows[i]);
+            took |= keep_within(*m, sets, spare + i64::from(lows[i]));
         }
         took
     }

@@ -1,10 +1,10 @@
-use Rattle.std.proofs.Common.{◌≡◌, ◌<◌, length, get_or, ap, ◌∙◌, arith, length-set, sym, refl, take_all, rules, w64, to_z, of_z}
+use Rattle.std.proofs.Common.{◌≡◌, ◌<◌, length, get_or, ap, ◌∙◌, arith, length-set, sym, refl, take_all, rules, w32, w64, to_z, of_z}
 use Rattle.rows.specs.Views.{row_of}
 use Rattle.std.specs.List.{list_all}
 use Rattle.linear.specs.Sums.{low, high}
 use Rattle.linear.proofs.Slacks.{reaches, widest_more}
 use Rattle.narrowing.proofs.Scans.{nobody}
-use Rattle.linear.proofs.Adding.{few_members, back, summed_fits, summed_more, summed_all}
+use Rattle.linear.proofs.Adding.{few_members, back_half, summed_fits, summed_more, summed_all}
 use Rattle.linear.proofs.Passes.{filled_more, filled_all, near_zeros, near_more}
 use Rattle.linear.proofs.lowest_terms.Goals as goal
 
@@ -25,8 +25,8 @@ loop-i-preserved c =
     let h : i < length ms = omega (arith, c.loop-i-test.true, ap length c.members-m-items.ensures) in
     let value = c.ends-low.ensures.low ∙ ap (λ l. low s (get_or l i nobody)) c.members-m-items.ensures in
     let upper = c.ends-low.ensures.high ∙ ap (λ l. high s (get_or l i nobody)) c.members-m-items.ensures in
-    let stored = to_z w64 (of_z w64 c.ends-low.result.0) in
-    let same = back 2097152 c.ends-low.result.0 (omega arith) c.ends-low.ensures.low_near in (
+    let stored = to_z w32 (of_z w32 (to_z w64 (of_z w64 c.ends-low.result.0))) in
+    let same = back_half 2097152 c.ends-low.result.0 (omega arith) c.ends-low.ensures.low_near in (
       length-set c.loop-i.lows i stored ∙ c.loop-i.invariant.0,
       filled_more (low s) ms c.loop-i.lows i stored nobody h (omega (arith, c.loop-i.invariant.0)) c.loop-i.invariant.1 (same ∙ value),
       summed_more (low s) ms i nobody _ c.ends-low.result.0 h f c.loop-i.invariant.2 value c.ends-low.ensures.low_near,

@@ -2,10 +2,11 @@ use Rattle.std.proofs.Common.{◌≡◌, ◌<◌, length, get_or, pos, ◌-ℤ�
 use lib.Signed.{le_z}
 use Rattle.rows.specs.Views.{row_of}
 use Rattle.narrowing.specs.Shared.{cut, cuts}
-use Rattle.linear.specs.Sums.{term, total, low, within}
+use Rattle.linear.specs.Sums.{term, total, low, within, Near}
 use Rattle.narrowing.proofs.Cuts.{Small}
 use Rattle.narrowing.proofs.Narrowing.{unchanged}
 use Rattle.narrowing.proofs.Scans.{nobody}
+use Rattle.linear.proofs.Adding.{half}
 use Rattle.linear.proofs.Passes.{filled_at, cut_more}
 use Rattle.linear.proofs.Slacks.{slack_of, slack_fits, slack_is, spare_is, test_within, none_cut, all_cut, over_bound}
 use Rattle.linear.proofs.LinearKind.turn.Goals as goal
@@ -20,8 +21,9 @@ overflow_add-spare c =
     let ms = (row_of c.args.row.now).members in
     let same = c.members-m-items.ensures in
     let here : i < length ms = omega (arith, c.loop-i-test.true, ap length same) in
-    let l = get_or c.lowest_terms-sum.result.0 i (pos 0) in
-    slack_fits c.bound-bound.result c.lowest_terms-sum.result.1 l c.bound-bound.ensures.near c.lowest_terms-sum.ensures.near (c.lowest_terms-sum.ensures.small i)
+    let kept = c.from.ensures ∙ half 2097152 (get_or c.lowest_terms-sum.result.0 i (pos 0)) (omega arith) (c.lowest_terms-sum.ensures.small i) in
+    let near = subst (Near 2097152) (sym kept) (c.lowest_terms-sum.ensures.small i) in
+    slack_fits c.bound-bound.result c.lowest_terms-sum.result.1 c.from.result c.bound-bound.ensures.near c.lowest_terms-sum.ensures.near near
 
 pub loop-i-preserved : goal.loop-i-preserved
 loop-i-preserved c =
@@ -35,9 +37,11 @@ loop-i-preserved c =
     let m = get_or ms i nobody in
     let b = c.bound-bound.result in
     let t = c.lowest_terms-sum.result.1 in
-    let l = get_or c.lowest_terms-sum.result.0 i (pos 0) in
-    let own : l ≡ low s m = filled_at (low s) ms c.lowest_terms-sum.result.0 i nobody (pos 0) here c.lowest_terms-sum.ensures.terms in
-    let slack = slack_is b t l c.bound-bound.ensures.near c.lowest_terms-sum.ensures.near (c.lowest_terms-sum.ensures.small i) in
+    let l = c.from.result in
+    let kept = c.from.ensures ∙ half 2097152 (get_or c.lowest_terms-sum.result.0 i (pos 0)) (omega arith) (c.lowest_terms-sum.ensures.small i) in
+    let near = subst (Near 2097152) (sym kept) (c.lowest_terms-sum.ensures.small i) in
+    let own : l ≡ low s m = kept ∙ filled_at (low s) ms c.lowest_terms-sum.result.0 i nobody (pos 0) here c.lowest_terms-sum.ensures.terms in
+    let slack = slack_is b t l c.bound-bound.ensures.near c.lowest_terms-sum.ensures.near near in
     cut_more (within r s) ms i nobody s c.loop-i.sets c.keep_within-took.new.sets (λ v. le_z (term m v) (slack_of b t l)) c.loop-i.took c.keep_within-took.result small here c.loop-i.invariant
     (λ v. ap (le_z (term m v)) slack ∙ test_within r s m b t l v c.bound-bound.ensures.value c.lowest_terms-sum.ensures.sum own)
     (c.keep_within-took.ensures.after ∙ ap (λ x. cut (get_or x i nobody).voice (λ v. le_z (term (get_or x i nobody) v) (slack_of b t l)) c.loop-i.sets) same)
