@@ -1,5 +1,5 @@
 -- The law of sheets, and what a Load comes to after any calls.
-use Rattle.std.proofs.Common.{true, false, is_err, Result, ◌≡◌, ℕ, List, ◌∷◌, sym, refl, ap, ◌∙◌, subst, subst₂, arith}
+use Rattle.std.proofs.Common.{true, false, is_err, Result, ◌≡◌, ℕ, List, [], ◌∷◌, sym, refl, ap, ◌∙◌, subst, subst₂, arith}
 use Rattle.rows.specs.Rows.{Meaning}
 use Rattle.rows.specs.Laws.{Laws}
 use Rattle.rows.specs.Bytes.{Bytes}
@@ -16,8 +16,8 @@ use Rattle.sheets.specs.declared.fault.SheetFault.{SheetFault}
 use Rattle.sheets.specs.Sheets.{sheet}
 use Rattle.sheets.specs.Reading.{Outcome, read_sheet, table_after}
 use Rattle.sheets.specs.Reading.Outcome.{accepted, refused}
-use Rattle.sheets.specs.Laws.{SheetsStand, loaded_after}
-use Rattle.sheets.specs.Loading.{load_answer, outcome_answer, Emptyings, Cleared, LoadLeaves, LoadHistory, LoadLasts, LoadBack, RecordsRead}
+use Rattle.sheets.specs.Laws.{SheetsStand, declared_after, posted_after}
+use Rattle.sheets.specs.Loading.{load_answer, outcome_answer, LoadLeaves, FillHistory, LoadHistory, LoadLasts, LoadBack, RecordsRead}
 use Rattle.sheets.proofs.Told.{Told, told}
 use Rattle.sheets.proofs.Saved.{saved_loads}
 
@@ -30,21 +30,11 @@ sheets_stand m L = record {
 
 -- ---- after any calls
 
--- emptied before, and then so often
-before_all : (b : Behaviour) {s t u : b.State} → b.empties s t → Emptyings b t u → Emptyings b s u
-before_all b {s} {t} e Emptyings.none = Emptyings.then s t Emptyings.none e
-before_all b {s} {t} e (Emptyings.then x y E f) = Emptyings.then x y (before_all b e E) f
-
-pub cleared : (b : Behaviour) {s t u : b.State} → b.empties s t → Emptyings b t u → Cleared b s u
-cleared b {s} {t} e Emptyings.none = record { before = s; emptyings = Emptyings.none; last = e }
-cleared b {s} {t} e (Emptyings.then x y E f) = record { before = x; emptyings = before_all b e E; last = f }
-
 -- From the table t and the state s: a Wipe, to the state w; then the records were read, to the table x and the state y; and where the sheet was declined, a Wipe more, to
 -- the table u and the state r.
 pub record Loaded (b : Behaviour) (m : Meaning) (bs : List ℕ) (s w : b.State) (x : Table) (y : b.State) (res : Result (Unit {0}) SheetFault) (u : Table) (r : b.State) : Type 0 where
   pub wiped : b.empties s w
   pub read : RecordsRead b m bs w x y (read_sheet m bs) res
-  pub emptied : Emptyings b w y
   pub declined : is_err res ≡ true → (u ≡ empty) × b.empties y r
   pub accepted : is_err res ≡ false → (u ≡ x) × (r ≡ y)
 
@@ -56,37 +46,40 @@ module _ (b : Behaviour) (m : Meaning) (L : Laws m) (bs : List ℕ) {s w y r : b
   pub answers : load_answer res ≡ outcome_answer (read_sheet m bs)
   answers = answer_by res l.read
 
-  leaves_by : {o : Outcome} (res' : Result (Unit {0}) SheetFault) → RecordsRead b m bs w x y o res' → (is_err res' ≡ true → (u ≡ empty) × b.empties y r)
-      → (is_err res' ≡ false → (u ≡ x) × (r ≡ y)) → LoadLeaves b o s u r
-  leaves_by res' (RecordsRead.ended voices rows e f) d a = record { table = (a refl).0 ∙ e; store = subst (Cleared b s) (sym (a refl).1) (cleared b l.wiped l.emptied) }
-  leaves_by res' (RecordsRead.faulted cause place first e f) d a =
-      record { table = (d refl).0; store = record { before = y; emptyings = before_all b l.wiped l.emptied; last = (d refl).1 } }
+  table_by : {o : Outcome} (res' : Result (Unit {0}) SheetFault) → RecordsRead b m bs w x y o res' → (is_err res' ≡ true → (u ≡ empty) × b.empties y r)
+      → (is_err res' ≡ false → (u ≡ x) × (r ≡ y)) → u ≡ table_after o
+  table_by res' (RecordsRead.ended voices rows e f) d a = (a refl).0 ∙ e
+  table_by res' (RecordsRead.faulted cause place first e f) d a = (d refl).0
 
-  pub leaves : LoadLeaves b (read_sheet m bs) s u r
-  leaves = leaves_by res l.read l.declined l.accepted
-
-  history_by : {o : Outcome} (res' : Result (Unit {0}) SheetFault) → RecordsRead b m bs w x y o res' → (is_err res' ≡ true → (u ≡ empty) × b.empties y r)
-      → (is_err res' ≡ false → (u ≡ x) × (r ≡ y)) → (t : Table) (g : b.State) (h : List (Call × Answer)) → History b m g h t s → LoadHistory b m g h bs o u r
-  history_by res' (RecordsRead.ended voices rows e f) d a t g h H =
-      let wiped : History b m g ((wipe, done) ∷ h) empty w = History.then h t empty s w wipe done H tt (Does.wipes w l.wiped) in
-      subst₂ (λ (z : Table) (q : b.State). History b m g (loaded_after h voices rows) z q) (sym ((a refl).0 ∙ e)) (sym (a refl).1) (f g ((wipe, done) ∷ h) wiped)
-  history_by res' (RecordsRead.faulted cause place first e f) d a t g h H =
-      let wiped : History b m g ((wipe, done) ∷ h) empty w = History.then h t empty s w wipe done H tt (Does.wipes w l.wiped) in
-      let calls = loaded_after h first.voices first.rows in (
+  -- after the calls h, which led to the empty table that the records fill
+  filled_by : {o : Outcome} (res' : Result (Unit {0}) SheetFault) → RecordsRead b m bs w x y o res' → (is_err res' ≡ true → (u ≡ empty) × b.empties y r)
+      → (is_err res' ≡ false → (u ≡ x) × (r ≡ y)) → (g : b.State) (h : List (Call × Answer)) → History b m g h empty w → FillHistory b m g h bs o u r
+  filled_by res' (RecordsRead.ended voices rows e f) d a g h H =
+      subst₂ (λ (z : Table) (q : b.State). History b m g (posted_after (declared_after h voices) rows) z q) (sym ((a refl).0 ∙ e)) (sym (a refl).1) (f g h H)
+  filled_by res' (RecordsRead.faulted cause place first e f) d a g h H =
+      let calls = posted_after (declared_after h first.voices) first.rows in (
         first,
-        subst (λ (z : Table). History b m g ((wipe, done) ∷ loaded_after h first.voices first.rows) z r) (sym (d refl).0)
-            (History.then calls (begun first.voices first.rows) empty y r wipe done (f g ((wipe, done) ∷ h) wiped) tt (Does.wipes r (d refl).1)),
+        subst (λ (z : Table). History b m g ((wipe, done) ∷ posted_after (declared_after h first.voices) first.rows) z r) (sym (d refl).0)
+            (History.then calls (begun first.voices first.rows) empty y r wipe done (f g h H) tt (Does.wipes r (d refl).1)),
       )
 
-  stands_by : (o : Outcome) (g : b.State) (h : List (Call × Answer)) → LoadHistory b m g h bs o u r → Stands m u (b.view r)
-  stands_by (accepted voices rows) g h H = search_stands b m L g (loaded_after h voices rows) u r H
-  stands_by (refused number place layer) g h H = search_stands b m L g ((wipe, done) ∷ loaded_after h H.0.voices H.0.rows) u r H.1
+  filled : (g : b.State) (h : List (Call × Answer)) → History b m g h empty w → FillHistory b m g h bs (read_sheet m bs) u r
+  filled g h H = filled_by res l.read l.declined l.accepted g h H
+
+  stands_by : (o : Outcome) (g : b.State) (h : List (Call × Answer)) → FillHistory b m g h bs o u r → Stands m u (b.view r)
+  stands_by (accepted voices rows) g h H = search_stands b m L g (posted_after (declared_after h voices) rows) u r H
+  stands_by (refused number place layer) g h H = search_stands b m L g ((wipe, done) ∷ posted_after (declared_after h H.0.voices) H.0.rows) u r H.1
+
+  pub leaves : LoadLeaves b m bs s u r
+  leaves =
+      let history = filled s [] (History.made w l.wiped) in
+      record { table = table_by res l.read l.declined l.accepted; history = history; stands = stands_by (read_sheet m bs) s [] history }
 
   pub lasts : (t : ℕ → Table) → LoadLasts b m t s bs u r
   lasts t =
       let history : (g : b.State) (h : List (Call × Answer)) (j : ℕ) → History b m g h (t j) s → LoadHistory b m g h bs (read_sheet m bs) u r =
-      λ g h j H. history_by res l.read l.declined l.accepted (t j) g h H in
-      record { history = history; stands = λ g h j H. stands_by (read_sheet m bs) g h (history g h j H) }
+      λ g h j H. filled g ((wipe, done) ∷ h) (History.then h (t j) empty s w wipe done H tt (Does.wipes w l.wiped)) in
+      record { history = history; stands = λ g h j H. stands_by (read_sheet m bs) g ((wipe, done) ∷ h) (history g h j H) }
 
 -- ---- loaded and saved, saved and loaded
 

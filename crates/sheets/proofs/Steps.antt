@@ -16,7 +16,7 @@ use Rattle.sheets.specs.Causes.{cause_number, cause_layer, cause_offset}
 use Rattle.sheets.specs.Reading.{Item, if_passes, item_at, Outcome, read_from, read_on, read_sheet}
 use Rattle.sheets.specs.Reading.Item.{last, voice, row, fault}
 use Rattle.sheets.specs.Reading.Outcome.{refused}
-use Rattle.sheets.specs.Loading.{Step, step_of, item_step, item_table, Unsearched, ItemStored, ItemRead, Emptyings, Fills, RecordsRead}
+use Rattle.sheets.specs.Loading.{Step, step_of, item_step, item_table, Unsearched, ItemStored, ItemRead, Fills, RecordsRead}
 use Rattle.sheets.specs.Loading.Step.{ends, goes, fails}
 use Rattle.sheets.proofs.Items.{voice_here, row_here}
 use Rattle.sheets.proofs.Told.{ReadSo, BareRead, none_read, one_voice, one_row, fault_at, some_row}
@@ -92,7 +92,6 @@ pub record SoFar (b : Behaviour) (m : Meaning) (bs : List ℕ) (w : b.State) (t 
   pub same : read_from m bound at t.voices t.rows (drop at bs) ≡ read_sheet m bs
   pub read : ReadSo b m bs w at t.voices t.rows (drop at bs) v
   pub bare_read : BareRead m bs at t.voices t.rows (drop at bs)
-  pub emptied : Emptyings b w v
 
 pub none_so_far : (b : Behaviour) (m : Meaning) (bs : List ℕ) (w : b.State) (t : Table) → Bytes bs → t ≡ empty → SoFar b m bs w t w 0
 none_so_far b m bs w t f e = subst (λ (x : Table). SoFar b m bs w x w 0) (sym e) (record {
@@ -103,7 +102,6 @@ none_so_far b m bs w t f e = subst (λ (x : Table). SoFar b m bs w x w 0) (sym e
   same = refl;
   read = none_read b m bs w f;
   bare_read = none_read bare m bs tt f;
-  emptied = Emptyings.none;
 })
 
 -- where the rest begins with a record of n bytes
@@ -144,7 +142,6 @@ module _ (b : Behaviour) (m : Meaning) (bs : List ℕ) (w : b.State) (t : Table)
                   (one_voice b m bs w at t.voices t.rows (drop at bs) v x s S.read here k);
               bare_read = subst (BareRead m bs (at + 9) (t.voices ++ (s ∷ [])) t.rows) (drop-drop 9 at bs)
                   (one_voice bare m bs tt at t.voices t.rows (drop at bs) tt tt s S.bare_read here tt);
-              emptied = Emptyings.then v x S.emptied k;
             };
           } in
           subst (λ (y : ℕ). Longer b m bs w u x at y) (sym nine) (subst (λ (y : Table). Longer b m bs w y x at 9) (sym g) next)
@@ -165,36 +162,33 @@ module _ (b : Behaviour) (m : Meaning) (bs : List ℕ) (w : b.State) (t : Table)
                   (one_row b m bs w at t.voices t.rows (drop at bs) r v x S.read here k);
               bare_read = subst (BareRead m bs (at + length r) t.voices (t.rows ++ (decode m r ∷ []))) (drop-drop (length r) at bs)
                   (one_row bare m bs tt at t.voices t.rows (drop at bs) r tt tt S.bare_read here tt);
-              emptied = Emptyings.then v x S.emptied k;
             };
           } in
           subst (λ (y : ℕ). Longer b m bs w u x at y) (sym long) (subst (λ (y : Table). Longer b m bs w y x at (length r)) (sym g) next)
       by (fault k' o l) e f g k = let z : ◌≡◌ {A = ℕ} 0 1 = cc in absurd (omega arith)
 
   pub ended : (u : Table) (x : b.State) → ItemRead b m t v (item_at m t.voices t.rows (drop at bs)) (Ok None) u x
-      → RecordsRead b m bs w u x (read_sheet m bs) (Ok tt) × Emptyings b w x
+      → RecordsRead b m bs w u x (read_sheet m bs) (Ok tt)
   ended u x h = by (item_at m t.voices t.rows (drop at bs)) refl h.step h.table h.store
     where
       by : (i : Item) → item_at m t.voices t.rows (drop at bs) ≡ i → ends ≡ item_step i → u ≡ item_table m t.voices t.rows i → ItemStored b i v x
-          → RecordsRead b m bs w u x (read_sheet m bs) (Ok tt) × Emptyings b w x
+          → RecordsRead b m bs w u x (read_sheet m bs) (Ok tt)
       by last e f g k =
-          let rest = on last e in (
-            subst (λ (o : Outcome). RecordsRead b m bs w u x o (Ok tt)) rest.2
-                (RecordsRead.ended t.voices t.rows g (subst (Fills b m w t.voices t.rows) (sym k) S.read.fills)),
-            subst (Emptyings b w) (sym k) S.emptied,
-          )
+          let rest = on last e in
+          subst (λ (o : Outcome). RecordsRead b m bs w u x o (Ok tt)) rest.2
+          (RecordsRead.ended t.voices t.rows g (subst (Fills b m w t.voices t.rows) (sym k) S.read.fills))
       by (voice s) e f g k = let z : ◌≡◌ {A = ℕ} 0 1 = cc in absurd (omega arith)
       by (row r) e f g k = let z : ◌≡◌ {A = ℕ} 0 1 = cc in absurd (omega arith)
       by (fault k' o l) e f g k = let z : ◌≡◌ {A = ℕ} 0 1 = cc in absurd (omega arith)
 
   pub faulted : Laws m → (cause : Cause) (place : ℕ) (u : Table) (x : b.State) → place ≡ at + cause_offset cause
       → ItemRead b m t v (item_at m t.voices t.rows (drop at bs)) (Err cause) u x
-      → RecordsRead b m bs w u x (read_sheet m bs) (Err (record { cause = cause; place = place })) × Emptyings b w x
+      → RecordsRead b m bs w u x (read_sheet m bs) (Err (record { cause = cause; place = place }))
   faulted L cause place u x p h = by (item_at m t.voices t.rows (drop at bs)) refl h.step h.table h.store
     where
       by : (i : Item) → item_at m t.voices t.rows (drop at bs) ≡ i → fails (cause_number cause) (cause_offset cause) (cause_layer cause) ≡ item_step i
           → u ≡ item_table m t.voices t.rows i → ItemStored b i v x
-          → RecordsRead b m bs w u x (read_sheet m bs) (Err (record { cause = cause; place = place })) × Emptyings b w x
+          → RecordsRead b m bs w u x (read_sheet m bs) (Err (record { cause = cause; place = place }))
       by last e f g k = let z : ◌≡◌ {A = ℕ} 0 1 = cc in absurd (omega arith)
       by (voice s) e f g k = let z : ◌≡◌ {A = ℕ} 0 1 = cc in absurd (omega arith)
       by (row r) e f g k = let z : ◌≡◌ {A = ℕ} 0 1 = cc in absurd (omega arith)
@@ -205,10 +199,8 @@ module _ (b : Behaviour) (m : Meaning) (bs : List ℕ) (w : b.State) (t : Table)
           let here : RecordsRead b m bs w u x (refused (cause_number cause) (at + cause_offset cause) (cause_layer cause)) (Err (record { cause = cause; place = at + cause_offset cause })) =
           RecordsRead.faulted cause (at + cause_offset cause) first g (subst (Fills b m w t.voices t.rows) (sym k) S.read.fills) in
           let come : refused (cause_number cause) (at + cause_offset cause) (cause_layer cause) ≡ read_sheet m bs =
-          ap (read_on m (read_from m rest.0) at t.voices t.rows (drop at bs)) (sym is) ∙ rest.2 in (
-            subst₂ (λ (o : Outcome) (q : ℕ). RecordsRead b m bs w u x o (Err (record { cause = cause; place = q }))) come (sym p) here,
-            subst (Emptyings b w) (sym k) S.emptied,
-          )
+          ap (read_on m (read_from m rest.0) at t.voices t.rows (drop at bs)) (sym is) ∙ rest.2 in
+          subst₂ (λ (o : Outcome) (q : ℕ). RecordsRead b m bs w u x o (Err (record { cause = cause; place = q }))) come (sym p) here
         where
           back : Step → Item
           back ends = last

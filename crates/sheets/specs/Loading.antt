@@ -15,7 +15,7 @@ use Rattle.sheets.specs.Causes.{cause_number, cause_layer, cause_offset}
 use Rattle.sheets.specs.Reading.{Item, Outcome, read_sheet, table_after}
 use Rattle.sheets.specs.Reading.Item.{last, voice, row, fault}
 use Rattle.sheets.specs.Reading.Outcome.{accepted, refused}
-use Rattle.sheets.specs.Laws.{FirstFault, declared_after, posted_after, loaded_after}
+use Rattle.sheets.specs.Laws.{FirstFault, declared_after, posted_after}
 
 -- ---- answers
 
@@ -36,28 +36,23 @@ outcome_answer (refused number place layer) = declined number place layer
 
 -- ---- what a Load leaves
 
--- Empty, any number of times
-pub data Emptyings (b : Behaviour) (s : b.State) : b.State → Type 0 where
-  none : Emptyings b s s
-  then : (t u : b.State) → Emptyings b s t → b.empties t u → Emptyings b s u
+-- After the calls h, over a store that was in the state g when the table was made, the records of a sheet that comes to this have led to the table u and the state r: by its
+-- Declares and Posts, all accepted; where it is declined, by those of the records before the first fault, and a Wipe.
+abbrev pub FillHistory : (b : Behaviour) (m : Meaning) (g : b.State) (h : List (Call × Answer)) (bytes : List ℕ) → Outcome → Table → b.State → Type 0
+FillHistory b m g h bytes (accepted voices rows) u r = History b m g (posted_after (declared_after h voices) rows) u r
+FillHistory b m g h bytes (refused number place layer) u r =
+    (first : FirstFault m bytes number place layer) × History b m g ((wipe, done) ∷ posted_after (declared_after h first.voices) first.rows) u r
 
--- the state that Empty leaves, once or more often
-pub record Cleared (b : Behaviour) (s t : b.State) : Type 0 where
-  pub before : b.State
-  pub emptyings : Emptyings b s before
-  pub last : b.empties before t
-
--- the table of the sheet's voices and rows, or an empty one, its search not begun, over its store, emptied
-pub record LoadLeaves (b : Behaviour) (o : Outcome) (s : b.State) (u : Table) (r : b.State) : Type 0 where
-  pub table : u ≡ table_after o
-  pub store : Cleared b s r
-
--- After the calls h, over a store that was in the state g when the table was made, a Load of these bytes that comes to this has led to the table u and the state r: by
--- a Wipe and the sheet's Declares and Posts, all accepted; where it is declined, by those of the records before the first fault, and a Wipe more.
+-- a Load is a Wipe, and then these
 abbrev pub LoadHistory : (b : Behaviour) (m : Meaning) (g : b.State) (h : List (Call × Answer)) (bytes : List ℕ) → Outcome → Table → b.State → Type 0
-LoadHistory b m g h bytes (accepted voices rows) u r = History b m g (loaded_after h voices rows) u r
-LoadHistory b m g h bytes (refused number place layer) u r =
-    (first : FirstFault m bytes number place layer) × History b m g ((wipe, done) ∷ loaded_after h first.voices first.rows) u r
+LoadHistory b m g h = FillHistory b m g ((wipe, done) ∷ h)
+
+-- Whatever the table was, over its store in the state s: it is that of the sheet's voices and rows, or an empty one, its search not begun; and it stands with its store as
+-- if it had been made over that store, and then so filled.
+pub record LoadLeaves (b : Behaviour) (m : Meaning) (bytes : List ℕ) (s : b.State) (u : Table) (r : b.State) : Type 0 where
+  pub table : u ≡ table_after (read_sheet m bytes)
+  pub history : FillHistory b m s [] bytes (read_sheet m bytes) u r
+  pub stands : Stands m u (b.view r)
 
 -- Whatever the calls were that led to the table t and the state s: so it is then; and what stands after every history stands.
 pub record LoadLasts (b : Behaviour) (m : Meaning) (t : ℕ → Table) (s : b.State) (bytes : List ℕ) (u : Table) (r : b.State) : Type 0 where

@@ -3,7 +3,7 @@ ghost use Rattle.std.specs.Prelude.{◌≡◌, true, false, is_err};
 ghost use Rattle.search.specs.Calls.{empty, Call, Answer};
 ghost use Rattle.planner.specs.Shown.{model, store_in, CallDone};
 ghost use Rattle.sheets.specs.Reading.{front_row, voice_item, row_item, item_at, read_sheet};
-ghost use Rattle.sheets.specs.Loading.{load_answer, outcome_answer, LoadLeaves, LoadBack, LoadLasts, Unsearched, ItemRead, Emptyings, RecordsRead};
+ghost use Rattle.sheets.specs.Loading.{load_answer, outcome_answer, LoadLeaves, LoadBack, LoadLasts, Unsearched, ItemRead, RecordsRead};
 ghost use Rattle.sheets.specs.Saving.{sheet_of};
 
 use crate::fault::{Cause, SheetFault};
@@ -81,8 +81,7 @@ fn read_record<B: Bank, S: Store>(
 // Reads records until the sheet ends, or one is faulty.
 fn read_records<B: Bank, S: Store>(table: &mut Table<B, S>, bytes: &[u8]) -> Result<(), SheetFault>
     requires { model table.old 0 ≡ empty }
-    ensures read { RecordsRead S.Store.behaviour B.Bank.meaning bytes.now (store_in table.old) (model table.new 0) (store_in table.new) (read_sheet B.Bank.meaning bytes.now) result }
-    ensures store { Emptyings S.Store.behaviour (store_in table.old) (store_in table.new) }
+    ensures { RecordsRead S.Store.behaviour B.Bank.meaning bytes.now (store_in table.old) (model table.new 0) (store_in table.new) (read_sheet B.Bank.meaning bytes.now) result }
 {
     let mut rest = bytes;
     loop {
@@ -111,7 +110,7 @@ fn wipe_declined<B: Bank, S: Store>(table: &mut Table<B, S>, res: &Result<(), Sh
 // voices and no rows.
 pub fn load<B: Bank, S: Store>(table: &mut Table<B, S>, bytes: &[u8]) -> Result<(), SheetFault>
     ensures value { load_answer result ≡ outcome_answer (read_sheet B.Bank.meaning bytes.now) }
-    ensures after { LoadLeaves S.Store.behaviour (read_sheet B.Bank.meaning bytes.now) (store_in table.old) (model table.new 0) (store_in table.new) }
+    ensures after { LoadLeaves S.Store.behaviour B.Bank.meaning bytes.now (store_in table.old) (model table.new 0) (store_in table.new) }
     ensures back { LoadBack (read_sheet B.Bank.meaning bytes.now) bytes.now (sheet_of table.new) }
     ensures lasts { LoadLasts S.Store.behaviour B.Bank.meaning (model table.old) (store_in table.old) bytes.now (model table.new 0) (store_in table.new) }
 {

@@ -26,8 +26,7 @@ returns g c =
     let d = c.wipe.ensures.does in
     let loaded : Loaded st m bs (store_in t) (store_in emptied) (model s 0) (store_in s) c.read_records-result.result (model u 0) (store_in u) = record {
       wiped = (wiped st m (model t 0) (model emptied (d.lost 0)) (store_in t) (store_in emptied) (d.does 0)).1;
-      read = c.read_records-result.ensures.read;
-      emptied = c.read_records-result.ensures.store;
+      read = c.read_records-result.ensures;
       declined = λ e. let d = c.wipe_declined.ensures.declined e in wiped st m (model s 0) (model u (d.lost 0)) (store_in s) (store_in u) (d.does 0);
       accepted = λ e. let same = c.wipe_declined.ensures.accepted e in (ap (λ x. model x 0) same, ap store_in same);
     } in

@@ -31,9 +31,8 @@ returns-in-Ok-None g c =
     let bs = c.args.bytes.now in
     let t = c.loop-length.table in
     let L = c.loop-length.invariant in
-    let done = ended g.S.Store.behaviour g.B.Bank.meaning bs (store_in c.args.table.now) (model t 0) (store_in t) (length bs - length c.loop-length.rest.now) L.so_far
-    (model c.read_record.new.table 0) (store_in c.read_record.new.table) (at_left L (c.in-Ok-None.is ∙ ap Ok c.in-Ok-None.field-0-is) c.read_record.ensures) in
-    record { read = done.0; store = done.1 }
+    ended g.S.Store.behaviour g.B.Bank.meaning bs (store_in c.args.table.now) (model t 0) (store_in t) (length bs - length c.loop-length.rest.now) L.so_far
+    (model c.read_record.new.table 0) (store_in c.read_record.new.table) (at_left L (c.in-Ok-None.is ∙ ap Ok c.in-Ok-None.field-0-is) c.read_record.ensures)
 
 pub returns-in-Err : goal.returns-in-Err
 returns-in-Err g c =
@@ -41,6 +40,5 @@ returns-in-Err g c =
     let t = c.loop-length.table in
     let L = c.loop-length.invariant in
     let at = length bs - length c.loop-length.rest.now in
-    let done = faulted g.S.Store.behaviour g.B.Bank.meaning bs (store_in c.args.table.now) (model t 0) (store_in t) at L.so_far g.met.B.Bank.lawful c.in-Err.cause (at + c.offset.result)
-    (model c.read_record.new.table 0) (store_in c.read_record.new.table) (ap (λ n. at + n) c.offset.ensures) (at_left L c.in-Err.is c.read_record.ensures) in
-    record { read = done.0; store = done.1 }
+    faulted g.S.Store.behaviour g.B.Bank.meaning bs (store_in c.args.table.now) (model t 0) (store_in t) at L.so_far g.met.B.Bank.lawful c.in-Err.cause (at + c.offset.result)
+    (model c.read_record.new.table 0) (store_in c.read_record.new.table) (ap (λ n. at + n) c.offset.ensures) (at_left L c.in-Err.is c.read_record.ensures)
