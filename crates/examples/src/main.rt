@@ -12,9 +12,10 @@ use std::alloc::{AllocError, Global};
 use std::fs;
 
 // The examples: of each the folder has the sheet and the report.
-const NAMES: [&str; 5] = [
+const NAMES: [&str; 6] = [
     "console",
     "console-none",
+    "even-loads",
     "full-shelf",
     "harbour",
     "knapsack",
