@@ -36,7 +36,7 @@ keeps_lost s k m f = (
 
 -- keys of so many words do not fit
 pub turned_away : (s : ShelfState) (words : ℕ) → fits words (shelf_view s).space ≡ false → TurnsAway shelf s words
-turned_away s words f k e = by_member (member k s.held) refl
+turned_away s words f k e = let c = by_member (member k s.held) refl in record { may = c; only = λ a t h. (h.0 ∙ sym c.0, h.1 ∙ sym c.1) }
   where
     by_member : (b : Bool) → member k s.held ≡ b → shelf.keeps s k (cond b Kept Lost) s
     by_member true m = keeps_held s k m

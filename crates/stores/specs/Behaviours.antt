@@ -17,9 +17,14 @@ pub record Behaviour : Type 1 where
   pub empties_lawfully : (s t : State) → empties s t → Emptied (view t)
   pub keeps_lawfully : (s t : State) (k : List ℕ) (a : Stored) → keeps s k a t → Keeps (view s) k a (view t)
 
--- asked to keep any key of so many words, the store may alter nothing: one that it holds is kept, any other is lost
+-- Keep can only alter nothing in the state s: the key k is kept if it is held, and lost otherwise
+pub record Unaltered (b : Behaviour) (s : b.State) (k : List ℕ) : Type 0 where
+  pub may : b.keeps s k (cond (member k (b.view s).held) Kept Lost) s
+  pub only : (a : Stored) (t : b.State) → b.keeps s k a t → (a ≡ cond (member k (b.view s).held) Kept Lost) × (t ≡ s)
+
+-- so it is of every key of so many words
 abbrev pub TurnsAway : (b : Behaviour) → b.State → ℕ → Type 0
-TurnsAway b s words = (k : List ℕ) → length k ≡ words → b.keeps s k (cond (member k (b.view s).held) Kept Lost) s
+TurnsAway b s words = (k : List ℕ) → length k ≡ words → Unaltered b s k
 
 -- Nothing is open: what Empty leaves, and what Keep answers and leaves, are functions of the state.
 pub record Decided (b : Behaviour) : Type 0 where

@@ -10,7 +10,7 @@ use Rattle.engine.proofs.keys.KeyBuffer.give.Goals as goal
 pub returns-then-turns_away : goal.returns-then-turns_away
 returns-then-turns_away g c =
     let k = key g.B.Bank.meaning (rows_of c.args.rows.now) c.args.sets.now in
-    (cond (member k (g.S.Store.behaviour.view (g.S.Store.state c.args.store.now)).held) Kept Lost, c.if-turns_away.ensures refl k (key_length g.B.Bank.meaning c.args.rows.now c.args.sets.now))
+    (cond (member k (g.S.Store.behaviour.view (g.S.Store.state c.args.store.now)).held) Kept Lost, (c.if-turns_away.ensures refl k (key_length g.B.Bank.meaning c.args.rows.now c.args.sets.now)).may)
 
 pub returns-in_default : goal.returns-in_default
 returns-in_default g c =
