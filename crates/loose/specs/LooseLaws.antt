@@ -13,7 +13,7 @@ use Rattle.rows.specs.declared.trace.Trace.TheVariants.{Settled, Open}
 use Rattle.narrowing.proofs.Members.{lettered_by}
 use Rattle.narrowing.proofs.Cuts.{narrower_refl}
 use Rattle.search.proofs.Boxes.{proper_full}
-use Rattle.loose.specs.Loose.{unasked, left, loose}
+use Rattle.loose.specs.Loose.{unasked, loose}
 
 some_there : (k : ℕ) (b : Bool) → 1 ≤ k → (nat_eq k 0 || b) ≡ b
 some_there k b h = ap (λ x. x || b) (ne_eqb k 0 (λ e. omega (arith, e)))
@@ -21,9 +21,6 @@ some_there k b h = ap (λ x. x || b) (ne_eqb k 0 (λ e. omega (arith, e)))
 -- an accepted row where no set is empty
 pub asked : (r : RowData) (s : List ℕ) (n : ℕ) → Accepted (alone loose) r n → Proper s → unasked r s ≡ false
 asked r s n a h = some_there (length r.members) (some_empty s) (omega (arith, a.shape.counted, a.shape.some_members)) ∙ proper_full s h
-
-still : (r : RowData) (s : List ℕ) (n : ℕ) → Accepted (alone loose) r n → Proper s → left r s ≡ s
-still r s n a h = ap (λ b. cond b (slice_set s (length s - 1) 0) s) (asked r s n a h)
 
 all_below : (p : List ℕ) → Placing p → list_all (λ v. nat_lt v 64) p ≡ true
 all_below [] h = refl
@@ -45,12 +42,20 @@ loose_lawful = record {
   lettered = lettered_by loose refl (lit≤ tt) (lit≤ tt);
   narrows = λ r s a h. subst (λ t. Narrower t s) (sym (still r s (length s) a h)) (narrower_refl s);
   sound = λ r s p a h w e. subst (Within p) (sym (still r s (length s) a h)) w;
-  checks = λ r s a h f e. absurd (both_ways (list_all (λ v. nat_lt v 64) (values s)) e (all_below (values s) (placed (values s) s h (values_within s h))));
-  projects = λ r s t p q a hs ht k e ws wt g. all_below p (placed p s hs ws) ∙ sym (all_below q (placed q t ht wt));
+  checks = λ r s a h f e. absurd (both_ways (loose.holds r (values s)) e (holds_always r (values s) (placed (values s) s h (values_within s h))));
+  projects = λ r s t p q a hs ht k e ws wt g. holds_always r p (placed p s hs ws) ∙ sym (holds_always r q (placed q t ht wt));
   stays = λ r n k a. record { shape = a.shape; yes = refl };
-  holds_more = λ r p q a h. all_below (p ++ q) h ∙ sym (all_below p (front p q h));
+  holds_more = λ r p q a h. holds_always r (p ++ q) h ∙ sym (holds_always r p (front p q h));
   turn_more = λ r s t a h. still r (s ++ t) (length s) a h ∙ sym (ap (λ x. x ++ t) (still r s (length s) a (proper_front s t h)));
-  trace_more = λ r s t a h.
-      ap (λ b. cond b (Open (length (s ++ t))) Settled) (asked r (s ++ t) (length s) a h)
-      ∙ sym (ap (λ b. cond b (Open (length s)) Settled) (asked r s (length s) a (proper_front s t h)));
+  trace_more = λ r s t a h. settled r (s ++ t) (length s) a h ∙ sym (settled r s (length s) a (proper_front s t h));
 }
+  where
+    -- its turn leaves the sets as they are, its trace is settled, and it holds for every placing
+    still : (r : RowData) (s : List ℕ) (n : ℕ) → Accepted (alone loose) r n → Proper s → loose.turn r s ≡ s
+    still r s n a h = ap (λ b. cond b (slice_set s (length s - 1) 0) s) (asked r s n a h)
+
+    settled : (r : RowData) (s : List ℕ) (n : ℕ) → Accepted (alone loose) r n → Proper s → loose.trace r s ≡ Settled
+    settled r s n a h = ap (λ b. cond b (Open (length s)) Settled) (asked r s n a h)
+
+    holds_always : (r : RowData) (p : List ℕ) → Placing p → loose.holds r p ≡ true
+    holds_always r p h = all_below p h
