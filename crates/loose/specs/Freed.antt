@@ -1,4 +1,4 @@
--- What the premises of the laws leave to a kind, this kind makes use of: without its premise each law is false of it.
+-- What some premises leave to a kind, this kind makes use of: without its premise each of these is false of it. (That its turn narrows, for one, is true of it always.)
 use Rattle.std.specs.Prelude.{◌≡◌, ℕ, false, List, ◌++◌, length, Ok}
 use Rattle.sets.specs.Placings.{changed, Proper}
 use Rattle.rows.specs.Rows.{alone, RowData}

@@ -1,4 +1,5 @@
 -- A kind that shows what the rules ask of a kind, and no more. Its rows hold for every placing.
+-- Its members name no voice, so that none can be undeclared.
 use Rattle.std.specs.Prelude.{ℕ, ◌-◌, Bool, cond, ◌||◌, List, length, Ok, nat_eq, nat_lt, slice_set}
 use Rattle.std.specs.List.{list_all}
 use Rattle.sets.specs.Placings.{some_empty}

@@ -82,7 +82,7 @@ impl Kind for Loose {
     }
 }
 
-// What the premises of the laws leave to a kind, this one makes use of: each law is false of it without its premise.
+// What these premises leave to a kind, this one makes use of: each statement is false of it without its premise.
 pub fn freedom_used()
     ensures { FreedomUsed }
 {}
