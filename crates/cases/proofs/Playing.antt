@@ -8,7 +8,7 @@ use Rattle.stores.specs.Behaviours.{Behaviour, Decided}
 use Rattle.search.specs.Calls.{Table, Call, Answer, Formed, judged, Does}
 use Rattle.search.specs.Calls.Call.{declare, post, solve, read, wipe}
 use Rattle.search.specs.Histories.{History, calls_of}
-use Rattle.search.specs.Behaviours.{Outcome}
+use Rattle.search.specs.CallOutcomes.{Outcome}
 use Rattle.search.proofs.OutcomeFacts.{comes, does_is, one_outcome, Played, play, replay}
 use Rattle.cases.specs.SearchCases.{SearchCase, Leads}
 

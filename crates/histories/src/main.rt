@@ -1,7 +1,7 @@
 // Plays the history of calls that standard input has, one call a line, over the bare store beside a large shelf, and beside a small one, and prints every reply.
 #![tactic(auto)]
 
-ghost use Rattle.std.specs.Prelude.{IfOk, [], length};
+ghost use Rattle.std.specs.Prelude.{IfOk, []};
 ghost use Rattle.kinds.specs.FourKinds.{four_kinds};
 ghost use Rattle.stores.specs.Bare.{bare};
 ghost use Rattle.stores.specs.Shelves.{room_of};
@@ -26,22 +26,21 @@ const LARGE: usize = 4096;
 
 const SMALL: usize = 44;
 
-// Plays the calls on two tables over the four kinds: one over the bare store, one over a new shelf in these words.
+// Plays the calls on two tables over the four kinds: one over the bare store, one over a new shelf of so many words.
 fn play_beside_bare(
     heap: Global,
-    words: &mut [u64],
+    count: usize,
     calls: &[Call],
 ) -> Result<(Vec<Reply>, Vec<Reply>), AllocError>
     ensures over_bare { IfOk result (λ both. Played bare four_kinds tt (calls_of calls.now) (answers_of both.0.items) (standings_of both.0.items)) }
-    ensures over_shelf { IfOk result (λ both. Played shelf four_kinds (record { held = []; room = room_of (length words.old) }) (calls_of calls.now) (answers_of both.1.items) (standings_of both.1.items)) }
+    ensures over_shelf { IfOk result (λ both. Played shelf four_kinds (record { held = []; room = room_of count }) (calls_of calls.now) (answers_of both.1.items) (standings_of both.1.items)) }
     ensures agreed { IfOk result (λ both. Agreed four_kinds (calls_of calls.now) (answers_of both.0.items) four_kinds (calls_of calls.now) (answers_of both.1.items)) }
 {
-    play_both::<FourKinds, Bare, FourKinds, Shelf<'_>>(heap, Bare, calls, Shelf::new(words), calls)
+    let mut words = vec![in heap; 0u64; count]?;
+    play_both::<FourKinds, Bare, FourKinds, Shelf>(heap, Bare, calls, Shelf::new(&mut words), calls)
 }
 
-// Prints the store's name, and the replies over it.
-fn print_replies(rt: &HostRuntime, name: &str, replies: &[Reply]) -> anyhow::Result<()> {
-    println!(rt; "{name}:")?;
+fn print_replies(rt: &HostRuntime, replies: &[Reply]) -> anyhow::Result<()> {
     for reply in replies {
         println!(rt; "{reply}")?;
     }
@@ -51,11 +50,12 @@ fn print_replies(rt: &HostRuntime, name: &str, replies: &[Reply]) -> anyhow::Res
 fn main(rt: HostRuntime) -> anyhow::Result<()> {
     let text = io::read_to_string(rt.alloc(), rt.stdin())?;
     let calls = parse_calls(rt.alloc(), &text)?;
-    let mut large = vec![in rt.alloc(); 0u64; LARGE]?;
-    let (over_bare, over_large) = play_beside_bare(rt.alloc(), &mut large, &calls)?;
-    let mut small = vec![in rt.alloc(); 0u64; SMALL]?;
-    let (_, over_small) = play_beside_bare(rt.alloc(), &mut small, &calls)?;
-    print_replies(&rt, "bare store", &over_bare)?;
-    print_replies(&rt, "shelf of 4096 words", &over_large)?;
-    print_replies(&rt, "shelf of 44 words", &over_small)
+    let (over_bare, over_large) = play_beside_bare(rt.alloc(), LARGE, &calls)?;
+    let (_, over_small) = play_beside_bare(rt.alloc(), SMALL, &calls)?;
+    println!(rt; "bare store:")?;
+    print_replies(&rt, &over_bare)?;
+    println!(rt; "shelf of {LARGE} words:")?;
+    print_replies(&rt, &over_large)?;
+    println!(rt; "shelf of {SMALL} words:")?;
+    print_replies(&rt, &over_small)
 }

@@ -2,7 +2,7 @@
 use Rattle.std.proofs.Common.{◌≡◌, ℕ, ◌<◌, Bool, true, false, ◌||◌, List, [], ◌∷◌, length, refl, arith}
 use Rattle.sets.specs.Placings.{same}
 use Rattle.stores.specs.Stores.{member}
-use Rattle.loose.specs.Newest.{one_key}
+use Rattle.loose.specs.LatestKey.{one_key}
 
 or_none : (b : Bool) → (b || false) ≡ b
 or_none true = refl

@@ -1,5 +1,5 @@
 pub mod Loose
 pub mod LooseLaws
 pub mod Freed
-pub mod Newest
-pub mod NewestLaws
+pub mod LatestKey
+pub mod LatestLaws

@@ -9,7 +9,7 @@ use Rattle.stores.specs.declared.store.Stored.TheVariants.{Kept, Lost}
 use Rattle.search.specs.Search.{Level, Place, BacksUp, Opens, Steps}
 use Rattle.search.specs.Calls.{Table, Call, Answer, over, Goes, Does}
 use Rattle.search.specs.Histories.{History}
-use Rattle.search.specs.Behaviours.{BacksNew, OpensNew, StepsNew}
+use Rattle.search.specs.CallOutcomes.{BacksNew, OpensNew, StepsNew}
 
 -- its states are views, and it may do what any store may
 abbrev pub any : Behaviour

@@ -8,7 +8,7 @@ use Rattle.search.proofs.AnyStore.{any}
 use Rattle.search.specs.Search.{Level, Place, child, BacksUp, Opens, Steps}
 use Rattle.search.specs.Calls.{Table, Call, Answer, Goes}
 use Rattle.search.specs.Histories.{History}
-use Rattle.search.specs.Behaviours.{BacksNew, OpensNew, StepsNew}
+use Rattle.search.specs.CallOutcomes.{BacksNew, OpensNew, StepsNew}
 use Rattle.search.proofs.Boxes.{narrow_refl}
 use Rattle.search.proofs.LevelFacts.{Chain, Unheld, child_chain, unheld_after}
 use Rattle.search.proofs.NodeFacts.{Stage, kept_from, lost_from}

@@ -10,7 +10,7 @@ use Rattle.search.specs.Search.{Level, Place, Node, node, below, child, taken, B
 use Rattle.search.specs.Propagation.{propagated}
 use Rattle.search.specs.Calls.{Table, begun, empty, Call, Answer, Judgement, judged, reasons, over, is_found, says, result, Goes, Solved, Does}
 use Rattle.search.specs.Histories.{History, calls_of}
-use Rattle.search.specs.Behaviours.{Outcome}
+use Rattle.search.specs.CallOutcomes.{Outcome}
 use Rattle.search.specs.Theorems.{OneOutcome, OneHistory}
 use Rattle.stores.specs.declared.store.Stored.TheVariants.{Kept, Lost}
 use Rattle.search.specs.Search.Place.{fresh, going, found, none}

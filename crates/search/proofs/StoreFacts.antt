@@ -10,7 +10,7 @@ use Rattle.search.proofs.AnyStore.{any}
 use Rattle.search.specs.Search.{Level, Place, Node, node, level_of, below, child, taken, BacksUp, Opens, Steps}
 use Rattle.search.specs.Propagation.{propagated}
 use Rattle.search.specs.Calls.{Table, Call, Answer, Judgement, over, says, result, Goes, Does}
-use Rattle.search.specs.Behaviours.{SameKeys}
+use Rattle.search.specs.CallOutcomes.{SameKeys}
 use Rattle.search.specs.Search.Place.{going, found, none}
 use Rattle.search.specs.Search.Node.{dead, solution, hit, branch}
 use Rattle.search.proofs.HistoryFacts.{not_both}

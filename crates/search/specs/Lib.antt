@@ -6,5 +6,5 @@ pub mod Calls
 pub mod Histories
 pub mod Results
 pub mod Branching
-pub mod Behaviours
+pub mod CallOutcomes
 pub mod Theorems

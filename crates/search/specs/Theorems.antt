@@ -13,7 +13,7 @@ use Rattle.search.specs.Calls.Call.{solve, read}
 use Rattle.search.specs.Histories.{History, calls_of, declared, posted}
 use Rattle.search.specs.Results.{Propagates, Projects, Stands, Limited, Says, finished, Reads, Budgeted, fits}
 use Rattle.search.specs.Branching.{TableLowest, Rising}
-use Rattle.search.specs.Behaviours.{Outcome, SameKeys, StepsNew}
+use Rattle.search.specs.CallOutcomes.{Outcome, SameKeys, StepsNew}
 
 -- ---- propagation and keys
 

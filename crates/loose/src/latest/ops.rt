@@ -4,8 +4,8 @@ ghost use Rattle.stores.specs.Behaviours.{Decided};
 ghost use Rattle.search.specs.Calls.{Call};
 ghost use Rattle.search.specs.Theorems.{OneHistory};
 ghost use Rattle.planner.specs.Shown.{found_in, CallDone, solve_answer};
-ghost use Rattle.loose.specs.Newest.{state_of};
-ghost use Rattle.loose.specs.NewestLaws.{latest};
+ghost use Rattle.loose.specs.LatestKey.{state_of};
+ghost use Rattle.loose.specs.LatestLaws.{latest};
 
 use crate::latest::Latest;
 use engine::outcome::Outcome;

@@ -1,15 +1,15 @@
 use Rattle.std.proofs.Common.{[], refl}
 use Rattle.stores.specs.Behaviours.{Decided}
 use Rattle.search.proofs.OutcomeFacts.{one_history}
-use Rattle.loose.specs.Newest.{newest_answer, newest_after}
-use Rattle.loose.specs.NewestLaws.{latest}
+use Rattle.loose.specs.LatestKey.{latest_answer, latest_after}
+use Rattle.loose.specs.LatestLaws.{latest}
 use Rattle.loose.proofs.latest.ops.latest_decides.Goals as goal
 
 decided : Decided latest
 decided = record {
   emptied = λ s. record { held = []; room = s.room };
-  answer = newest_answer;
-  after = newest_after;
+  answer = latest_answer;
+  after = latest_after;
   empties = λ s. refl;
   keeps = λ s k. (refl, refl);
   emptied_only = λ s t h. h;
