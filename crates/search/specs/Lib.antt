@@ -8,3 +8,4 @@ pub mod Results
 pub mod Branching
 pub mod CallOutcomes
 pub mod Theorems
+pub mod Rounds

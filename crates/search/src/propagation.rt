@@ -5,6 +5,7 @@ ghost use Rattle.rows.specs.Views.{rows_of};
 ghost use Rattle.search.specs.Propagation.{propagated};
 ghost use Rattle.search.specs.Placed.{Ready};
 ghost use Rattle.search.specs.Results.{Stable, RoundDone};
+ghost use Rattle.search.specs.Rounds.{due_of, is_emptied};
 
 use rows::bank::Bank;
 use rows::row::Row;
@@ -25,16 +26,26 @@ pub fn has_empty(sets: &[ValueSet]) -> bool
     found
 }
 
+// What a round comes to.
+#[derive(Clone, Copy)]
+enum RoundEnd {
+    // a turn emptied a set
+    Emptied,
+    // no turn changed a set
+    Settled,
+    // another round is due: the rows from this one on left the sets as they are then
+    Due(usize),
+}
+
 // Each row has a turn in order, until one empties a set. Where none has changed a set yet, the rows from `quiet` on need none: theirs left these sets as they
-// are. Says whether another round is due, since some turn changed a set and none emptied one: the rows from the answered one on left the sets as they are then.
-// And says whether a turn emptied a set.
-fn run_round<B: Bank>(rows: &[Row], sets: &mut [ValueSet], quiet: usize) -> (Option<usize>, bool)
+// are. Another round is due where some turn changed a set and none emptied one.
+fn run_round<B: Bank>(rows: &[Row], sets: &mut [ValueSet], quiet: usize) -> RoundEnd
     ensures done { Ready B.Bank.meaning (rows_of rows.now) sets.old → Stable B.Bank.meaning (rows_of (drop quiet rows.now)) sets.old
-        → RoundDone B.Bank.meaning rows.now sets.old result.0 sets.new }
+        → RoundDone B.Bank.meaning rows.now sets.old (due_of result) sets.new }
     ensures emptied { Ready B.Bank.meaning (rows_of rows.now) sets.old → Stable B.Bank.meaning (rows_of (drop quiet rows.now)) sets.old
-        → result.1 ≡ some_empty sets.new }
+        → is_emptied result ≡ some_empty sets.new }
 {
-    let mut due = None;
+    let mut next = RoundEnd::Settled;
     let mut end = quiet;
     for (i, row) in rows.iter().enumerate() {
         if i == end {
@@ -42,13 +53,13 @@ fn run_round<B: Bank>(rows: &[Row], sets: &mut [ValueSet], quiet: usize) -> (Opt
         }
         if B::turn(row, sets) {
             if has_empty(sets) {
-                return (None, true);
+                return RoundEnd::Emptied;
             }
-            due = Some(i + 1);
+            next = RoundEnd::Due(i + 1);
             end = rows.len();
         }
     }
-    (due, false)
+    next
 }
 
 // Rounds as long as another is due; says whether a set is empty then. What a turn answers is known where its row is accepted and no set is empty.
@@ -58,11 +69,11 @@ pub fn propagate<B: Bank>(rows: &[Row], sets: &mut [ValueSet]) -> bool
 {
     let mut quiet = rows.len();
     for _ in 0..=MOST_VALUES * sets.len() as u128 {
-        let (due, emptied) = run_round::<B>(rows, sets, quiet);
-        let Some(rest) = due else {
-            return emptied;
-        };
-        quiet = rest;
+        match run_round::<B>(rows, sets, quiet) {
+            RoundEnd::Emptied => return true,
+            RoundEnd::Settled => return false,
+            RoundEnd::Due(rest) => quiet = rest,
+        }
     }
     false
 }

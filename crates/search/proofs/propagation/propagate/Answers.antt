@@ -3,6 +3,7 @@ use Rattle.std.proofs.lemmas.List.{at_drop_all}
 use Rattle.rows.specs.Views.{rows_of}
 use Rattle.search.specs.Propagation.{rounds}
 use Rattle.search.specs.Results.{Stable, RoundDone}
+use Rattle.search.specs.Rounds.{due_of}
 use Rattle.search.proofs.Boxes.{proper_full}
 use Rattle.search.proofs.Quiet.{due_ready}
 use Rattle.search.proofs.Scans.{rounds_more}
@@ -24,19 +25,11 @@ loop-preserved g c = λ ready.
     let most = 64 * length c.args.sets.now in
     let one_less : suc (most - (c.loop.counter + 1)) ≡ most - c.loop.counter = omega arith in
     let now = c.loop.invariant ready in
-    let t = c.run_round-due.new.sets in
-    let done = subst (λ due. RoundDone m c.args.rows.now c.loop.sets due t) c.in-Some.is (c.run_round-due.ensures.done now.2 now.1) in (
+    let t = c.run_round.new.sets in
+    let done = subst (λ next. RoundDone m c.args.rows.now c.loop.sets (due_of next) t) c.in-Due.is (c.run_round.ensures.done now.2 now.1) in (
       ap (λ (n : ℕ). rounds m rows n t) one_less
           ∙ sym (rounds_more m rows (most - c.loop.counter) c.loop.sets t true done.after done.value refl)
           ∙ now.0,
       done.rest,
-      due_ready m g.met.B.Bank.lawful c.args.rows.now c.loop.sets t c.in-Some.rest now.2 done,
+      due_ready m g.met.B.Bank.lawful c.args.rows.now c.loop.sets t c.in-Due.rest now.2 done,
     )
-
-pub returns-in-Some-clause-value : goal.returns-in-Some-clause-value
-returns-in-Some-clause-value g c = λ ready.
-    let m = g.B.Bank.meaning in
-    let now = c.loop.invariant ready in
-    let t = c.run_round-due.new.sets in
-    let done = subst (λ due. RoundDone m c.args.rows.now c.loop.sets due t) c.in-Some.is (c.run_round-due.ensures.done now.2 now.1) in
-    sym (proper_full t (due_ready m g.met.B.Bank.lawful c.args.rows.now c.loop.sets t c.in-Some.rest now.2 done).proper)
