@@ -6,10 +6,10 @@ use lib.Count.{ones, count_trailing_zeros}
 use Rattle.sets.specs.Sets.{mask, sift}
 use Rattle.sets.specs.Placings.{same}
 use Rattle.sets.proofs.Lists.{same_is}
-use Rattle.narrowing.specs.Shared.{cut}
+use Rattle.rows.specs.Shared.{cut}
 use Rattle.rows.specs.Bytes.{total_bytes}
 use Rattle.search.specs.Calls.{judged}
-use Rattle.kinds.proofs.Computed.{all_by}
+use Rattle.cases.proofs.TurnsComputed.{all_by}
 use Rattle.stores.specs.Behaviours.{Behaviour, Decided}
 use Rattle.stores.specs.Bare as stores
 use Rattle.stores.specs.ShelfLaws.{shelf}

@@ -1,3 +1,4 @@
+pub mod Turns
 pub mod Tables
 pub mod SearchCases
 pub mod Searches

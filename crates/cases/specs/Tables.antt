@@ -2,7 +2,7 @@
 use Rattle.std.specs.Prelude.{ℕ, zero, suc, List, [], ◌∷◌, pos}
 use Rattle.rows.specs.declared.member.Member.{Member}
 use Rattle.rows.specs.Rows.{RowData, Meaning, alone}
-use Rattle.all_different.specs.Differing.{all_different}
+use Rattle.kinds.specs.Differing.{all_different}
 use Rattle.search.specs.Search.{Place}
 use Rattle.search.specs.Calls.{Table}
 

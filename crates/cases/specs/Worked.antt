@@ -1,5 +1,5 @@
 -- The worked cases, all in one table: of single turns and traces, and of whole searches.
-use Rattle.kinds.specs.Cases.{CasesStand}
+use Rattle.cases.specs.Turns.{CasesStand}
 use Rattle.cases.specs.Searches.{SearchesStand}
 
 pub record WorkedStand : Type 0 where

@@ -1,6 +1,7 @@
 // Searches and refusals, worked through.
 #![tactic(auto)]
 
+ghost use Rattle.cases.specs.Turns.{CasesStand};
 ghost use Rattle.cases.specs.Worked.{WorkedStand};
 ghost use Rattle.cases.specs.Refusals.{RefusalsStand, LimitsReached};
 
@@ -17,4 +18,9 @@ pub fn refusals_stand()
 // The limits of a table can be reached, and not passed.
 pub fn limits_reached()
     ensures { LimitsReached }
+{}
+
+// The turns, traces and verdicts of the table of rows are as written there.
+pub fn turns_stand()
+    ensures { CasesStand }
 {}

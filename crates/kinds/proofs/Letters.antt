@@ -1,10 +1,10 @@
 -- Each row goes to the kind whose letter it has.
 use Rattle.std.proofs.Common.{◌≡◌, ℕ, sym, refl, subst}
 use Rattle.rows.specs.Rows.{RowData}
-use Rattle.all_different.specs.Differing.{all_different}
-use Rattle.linear.specs.Sums.{linear}
-use Rattle.clause.specs.Literals.{clause}
-use Rattle.element.specs.Entries.{element}
+use Rattle.kinds.specs.Differing.{all_different}
+use Rattle.kinds.specs.Sums.{linear}
+use Rattle.kinds.specs.Literals.{clause}
+use Rattle.kinds.specs.Entries.{element}
 use Rattle.kinds.specs.FourKinds.{four_kinds, ByLetter}
 
 -- what agrees on rows written with this letter agrees on each row that has it

@@ -1,10 +1,10 @@
 -- The bank of the four kinds, and which kind a row goes to.
 use Rattle.std.specs.Prelude.{◌≡◌, ℕ, true, ◌||◌, ◌==◌}
 use Rattle.rows.specs.Rows.{RowData, KindMeaning, Meaning, alone, beside}
-use Rattle.all_different.specs.Differing.{all_different}
-use Rattle.linear.specs.Sums.{linear}
-use Rattle.clause.specs.Literals.{clause}
-use Rattle.element.specs.Entries.{element}
+use Rattle.kinds.specs.Differing.{all_different}
+use Rattle.kinds.specs.Sums.{linear}
+use Rattle.kinds.specs.Literals.{clause}
+use Rattle.kinds.specs.Entries.{element}
 
 -- all different (A), linear (L), clause (C) and element (E), side by side
 abbrev pub four_kinds : Meaning

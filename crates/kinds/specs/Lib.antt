@@ -1,2 +1,9 @@
+pub mod Differing
+pub mod DifferingLaws
+pub mod Sums
+pub mod SumsLaws
+pub mod Literals
+pub mod LiteralsLaws
+pub mod Entries
+pub mod EntriesLaws
 pub mod FourKinds
-pub mod Cases

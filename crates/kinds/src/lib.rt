@@ -1,15 +1,19 @@
-// The four kinds of rows side by side, and a table of cases.
+// The four kinds of rows, and the bank of the four side by side.
 #![tactic(auto)]
 
 ghost use Rattle.std.specs.Prelude.{◌≡◌};
 ghost use Rattle.kinds.specs.FourKinds.{four_kinds, ByLetter};
-ghost use Rattle.kinds.specs.Cases.{CasesStand};
 
-use all_different::AllDifferent;
-use clause::Clause;
-use element::Element;
-use linear::Linear;
+use crate::all_different::AllDifferent;
+use crate::clause::Clause;
+use crate::element::Element;
+use crate::linear::Linear;
 use rows::bank::{Alone, Bank, Beside};
+
+pub mod all_different;
+pub mod clause;
+pub mod element;
+pub mod linear;
 
 // All different, linear, clause and element, side by side.
 pub type FourKinds = Beside<
@@ -21,9 +25,4 @@ pub type FourKinds = Beside<
 pub fn four_kinds_stand()
     ensures meaning { ⟦<FourKinds as Bank>⟧.meaning ≡ four_kinds }
     ensures letters { ByLetter }
-{}
-
-// The turns, traces and verdicts of the table of cases are as written there.
-pub fn cases_stand()
-    ensures { CasesStand }
 {}

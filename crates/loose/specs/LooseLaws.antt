@@ -10,8 +10,8 @@ use Rattle.sets.proofs.Lists.{values_within}
 use Rattle.rows.specs.Rows.{alone, RowData}
 use Rattle.rows.specs.Laws.{Laws, Accepted}
 use Rattle.rows.specs.declared.trace.Trace.TheVariants.{Settled, Open}
-use Rattle.narrowing.proofs.Members.{lettered_by}
-use Rattle.narrowing.proofs.Cuts.{narrower_refl}
+use Rattle.rows.proofs.Members.{lettered_by}
+use Rattle.rows.proofs.Cuts.{narrower_refl}
 use Rattle.search.proofs.Boxes.{proper_full}
 use Rattle.loose.specs.Loose.{unasked, loose}
 

@@ -11,11 +11,11 @@ ghost use Rattle.loose.specs.Loose.{unasked, loose};
 ghost use Rattle.loose.specs.Freed.{FreedomUsed};
 ghost use Rattle.loose.specs.LooseLaws.{loose_lawful};
 ghost use Rattle.search.specs.Calls.{Call};
-ghost use Rattle.planner.specs.Shown.{found_in, CallDone, solve_answer};
+ghost use Rattle.table.specs.Shown.{found_in, CallDone, solve_answer};
 
-use engine::outcome::Outcome;
-use planner::refusal::Refusal;
-use planner::table::Table;
+use table::outcome::Outcome;
+use table::refusal::Refusal;
+use table::Table;
 use rows::bank::Alone;
 use rows::fault::Fault;
 use rows::kind::Kind;

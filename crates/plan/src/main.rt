@@ -2,8 +2,8 @@
 #![tactic(auto)]
 
 use anyhow::{Context, Result};
-use planning::MOST_SHEET;
-use planning::standard::planned;
+use job::MOST_SHEET;
+use job::standard::planned;
 use std::io::{Read, Write};
 
 fn main(rt: HostRuntime) -> Result<()> {

@@ -1,2 +1,10 @@
 pub mod Layouts
 pub mod Readings
+pub mod Places
+pub mod RowBytes
+pub mod Texts
+pub mod Cuts
+pub mod Members
+pub mod Narrowed
+pub mod Scans
+pub mod Masked

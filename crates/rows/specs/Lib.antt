@@ -6,3 +6,7 @@ pub mod Views
 pub mod Bytes
 pub mod Numbers
 pub mod Reading
+pub mod Written
+pub mod WrittenRows
+pub mod Shared
+pub mod Placed

@@ -6,6 +6,8 @@ pub mod bytes;
 pub mod fault;
 pub mod kind;
 pub mod member;
+pub mod narrowing;
 pub mod reading;
 pub mod row;
 pub mod trace;
+pub mod writer;

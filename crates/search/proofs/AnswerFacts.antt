@@ -11,7 +11,7 @@ use Rattle.search.proofs.AnyStore.{any}
 use Rattle.search.specs.Search.{Place, Steps}
 use Rattle.search.specs.Calls.{Table, Call, Answer, Formed, Judgement, reasons, judged, over, says, result, Goes, Solved, Does}
 use Rattle.search.specs.Histories.{History, declared, posted}
-use Rattle.search.specs.Placed.{Least, Lawless, SameLeast}
+use Rattle.rows.specs.Placed.{Least, Lawless, SameLeast}
 use Rattle.search.specs.Results.{Stands, Reads, Says, finished, Budgeted}
 use Rattle.search.specs.Calls.Call.{declare, post, solve, read, wipe}
 use Rattle.search.proofs.HistoryFacts.{not_both, none_fits, fit, search_stands}

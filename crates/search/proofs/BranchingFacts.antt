@@ -14,7 +14,7 @@ use Rattle.search.specs.Propagation.{propagated}
 use Rattle.search.specs.Calls.{Table, Call, Answer, Goes, Does}
 use Rattle.search.specs.Histories.{History}
 use Rattle.search.specs.Branching.{AboveNewest, Ascending, NodeLowest, TableLowest, Rising}
-use Rattle.search.specs.Placed.{AllAccepted}
+use Rattle.rows.specs.Placed.{AllAccepted}
 use Rattle.search.specs.Search.Place.{fresh, going}
 use Rattle.search.specs.Search.Node.{dead, solution, hit, branch}
 use Rattle.search.proofs.Boxes.{narrow_refl}

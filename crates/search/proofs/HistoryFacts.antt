@@ -14,7 +14,7 @@ use Rattle.search.specs.Search.{Place}
 use Rattle.search.specs.Calls.{Table, Call, Answer, Formed, Judgement, reasons, judge, judged, declined_under, Goes, Does, empty}
 use Rattle.search.specs.Histories.{History}
 use Rattle.search.specs.Results.{Stands}
-use Rattle.search.specs.Placed.{AllAccepted}
+use Rattle.rows.specs.Placed.{AllAccepted}
 use Rattle.search.specs.Search.Place.{fresh, going, found, none}
 use Rattle.search.specs.Calls.Call.{declare, post}
 use Rattle.search.proofs.NodeFacts.{Stage, SoundStore, steps}

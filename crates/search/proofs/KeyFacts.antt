@@ -12,7 +12,7 @@ use Rattle.rows.specs.declared.trace.Trace.TheVariants.{Settled, Open}
 use Rattle.rows.specs.Laws.{Laws, Alike, Agree}
 use Rattle.rows.specs.Traces.{mark_word, content_word}
 use Rattle.stores.specs.Keys.{key, voice_word, voice_words, trace_words}
-use Rattle.search.specs.Placed.{AllAccepted, AllHold}
+use Rattle.rows.specs.Placed.{AllAccepted, AllHold}
 use Rattle.search.specs.Results.{Projects}
 use Rattle.stores.proofs.Writing.{trace_length}
 

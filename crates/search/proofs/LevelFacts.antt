@@ -10,7 +10,7 @@ use Rattle.rows.specs.Rows.{RowData, Meaning}
 use Rattle.stores.specs.Keys.{key}
 use Rattle.stores.specs.Stores.{member, View}
 use Rattle.search.specs.Search.{Level, Lowest, below, first_open, level_of, child, taken}
-use Rattle.search.specs.Placed.{AllHold}
+use Rattle.rows.specs.Placed.{AllHold}
 use Rattle.search.proofs.SetParts.{Rest, rest, under, pinned, part_fixed, fixed_one, only_has, only_is, only_bounds}
 use Rattle.search.proofs.Boxes.{narrow_trans, within_narrow}
 use Rattle.sets.proofs.Lists.{same_is}

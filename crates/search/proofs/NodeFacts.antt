@@ -10,7 +10,7 @@ use Rattle.rows.specs.Laws.{Laws}
 use Rattle.stores.specs.Keys.{key}
 use Rattle.stores.specs.Stores.{member, View, Keeps, distinct_keys}
 use Rattle.search.proofs.AnyStore.{any}
-use Rattle.search.specs.Placed.{Lawful, AllAccepted}
+use Rattle.rows.specs.Placed.{Lawful, AllAccepted}
 use Rattle.search.specs.Search.{Level, Place, Node, below, level_of, node, child, taken, BacksUp, Opens, Steps}
 use Rattle.search.specs.Propagation.{propagated}
 use Rattle.stores.specs.declared.store.Stored.TheVariants.{Kept, Lost}

@@ -6,7 +6,7 @@ use Rattle.std.specs.List.{list_all}
 use Rattle.rows.specs.Rows.{RowData, Meaning}
 use Rattle.rows.specs.Laws.{Laws, Accepted}
 use Rattle.search.specs.Propagation.{Round, round_from, round, rounds, propagated, size}
-use Rattle.search.specs.Placed.{AllAccepted, Ready, AllHold, Lawful}
+use Rattle.rows.specs.Placed.{AllAccepted, Ready, AllHold, Lawful}
 use Rattle.search.specs.Results.{Stable, Propagates}
 use Rattle.search.proofs.Boxes.{narrow_trans, narrow_refl, proper_narrow, proper_full, proper_words, size_le, size_same, size_most, within_narrow, values_only}
 use Rattle.sets.proofs.Lists.{same_self, same_is, values_within}

@@ -9,7 +9,7 @@ use Rattle.rows.specs.Views.{row_of, rows_of}
 use Rattle.rows.specs.Laws.{Laws, Accepted}
 use Rattle.sets.specs.Placings.{same, changed, some_empty}
 use Rattle.sets.proofs.Lists.{same_self, same_is}
-use Rattle.search.specs.Placed.{AllAccepted, Ready}
+use Rattle.rows.specs.Placed.{AllAccepted, Ready}
 use Rattle.search.specs.Propagation.{Round, round, round_from}
 use Rattle.search.specs.Results.{Stable, RoundDone}
 use Rattle.search.proofs.Scans.{Turned, round_none, round_stop}

@@ -1,7 +1,6 @@
 pub mod Limits
 pub mod Propagation
 pub mod Search
-pub mod Placed
 pub mod Calls
 pub mod Histories
 pub mod Results

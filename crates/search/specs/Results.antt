@@ -11,7 +11,7 @@ use Rattle.stores.specs.Stores.{View, distinct_keys}
 use Rattle.search.specs.Limits.{most_voices, most_rows, most_bytes, most_opened}
 use Rattle.search.specs.Propagation.{round, rounds, size}
 use Rattle.search.specs.Search.{Place}
-use Rattle.search.specs.Placed.{AllHold, Least, Lawless}
+use Rattle.rows.specs.Placed.{AllHold, Least, Lawless}
 use Rattle.search.specs.Calls.{Table, Answer, over, says}
 
 -- ---- propagation

@@ -7,7 +7,7 @@ use Rattle.stores.specs.Keys.{key}
 use Rattle.stores.specs.Behaviours.{Behaviour}
 use Rattle.search.specs.Propagation.{propagated}
 use Rattle.search.specs.Search.{Place, Level, Steps}
-use Rattle.search.specs.Placed.{AllAccepted, Lawful, SameLeast}
+use Rattle.rows.specs.Placed.{AllAccepted, Lawful, SameLeast}
 use Rattle.search.specs.Calls.{Table, Call, Answer, Judgement, reasons, judged, over, Goes, Does}
 use Rattle.search.specs.Calls.Call.{solve, read}
 use Rattle.search.specs.Histories.{History, calls_of, declared, posted}

@@ -3,7 +3,7 @@ ghost use Rattle.std.specs.Prelude.{◌≡◌, drop};
 ghost use Rattle.sets.specs.Placings.{some_empty};
 ghost use Rattle.rows.specs.Views.{rows_of};
 ghost use Rattle.search.specs.Propagation.{propagated};
-ghost use Rattle.search.specs.Placed.{Ready};
+ghost use Rattle.rows.specs.Placed.{Ready};
 ghost use Rattle.search.specs.Results.{Stable, RoundDone};
 ghost use Rattle.search.specs.Rounds.{due_of, is_emptied};
 

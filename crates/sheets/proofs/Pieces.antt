@@ -4,8 +4,8 @@ use native.Mathlib.Nat.{div-div-eq-div-mul}
 use Rattle.std.proofs.lemmas.List.{length-append}
 use Rattle.rows.specs.Rows.{RowData}
 use Rattle.rows.specs.Bytes.{total_bytes}
-use Rattle.writing.proofs.RowBytes.{row_length}
-use Rattle.writing.specs.WrittenRows.{written_row}
+use Rattle.rows.proofs.RowBytes.{row_length}
+use Rattle.rows.specs.WrittenRows.{written_row}
 use Rattle.sheets.specs.Sheets.{low_first, voice_records, row_records, records, sheet}
 
 -- the eight bytes of a set

@@ -6,13 +6,13 @@ use Rattle.rows.specs.Rows.{RowData, Meaning, Verdict}
 use Rattle.rows.specs.Laws.{Laws, Accepted}
 use Rattle.rows.specs.Bytes.{count_byte, head_length, lettered, counted, right_length, marked, Layout, LaidOut, decode, encode, member_bytes, total_bytes}
 use Rattle.rows.proofs.Layouts.{bytes_both_ways}
-use Rattle.writing.proofs.RowBytes.{row_same}
+use Rattle.rows.proofs.RowBytes.{row_same}
 use Rattle.search.specs.Limits.{most_rows, most_bytes}
 use Rattle.search.specs.Calls.{begun, Judgement, judge, judged, declined_under}
 use Rattle.search.specs.Calls.Call.{post}
-use Rattle.search.specs.Placed.{AllAccepted}
+use Rattle.rows.specs.Placed.{AllAccepted}
 use Rattle.search.specs.Results.{AllLaidOut}
-use Rattle.planner.proofs.Judging.{voice_fits}
+use Rattle.table.proofs.Judging.{voice_fits}
 use Rattle.sheets.specs.Sheets.{low_first, number_in, voice_record, voice_records, row_records, sheet}
 use Rattle.sheets.specs.Reading.{if_passes, front_row, item_at, read_on, read_from, read_sheet}
 use Rattle.sheets.specs.Reading.Item.{voice, row}

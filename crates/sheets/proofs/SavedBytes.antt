@@ -1,10 +1,10 @@
 -- Bytes saved at the front of a buffer, or a buffer that is too short for them.
 use Rattle.std.proofs.Common.{◌≡◌, ℕ, ◌<◌, ◌≤◌, Bool, cond, List, ◌++◌, length, drop, Ok, Err, Result, sym, ap, ◌∙◌}
 use Rattle.std.proofs.lemmas.Bool.{lt-leb, le-leb}
-use Rattle.planner.specs.declared.refusal.Refusal.{Refusal}
-use Rattle.planner.specs.declared.refusal.Refusal.TheVariants.{ShortBuffer}
-use Rattle.writing.specs.Written.{written}
-use Rattle.writing.proofs.Places.{written_front}
+use Rattle.table.specs.declared.refusal.Refusal.{Refusal}
+use Rattle.table.specs.declared.refusal.Refusal.TheVariants.{ShortBuffer}
+use Rattle.rows.specs.Written.{written}
+use Rattle.rows.proofs.Places.{written_front}
 use Rattle.sheets.specs.Saving.{written_answer, buffer_after}
 
 -- the answer, by whether the bytes fit

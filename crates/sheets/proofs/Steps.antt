@@ -8,8 +8,8 @@ use Rattle.stores.specs.Behaviours.{Behaviour}
 use Rattle.stores.specs.Bare.{bare}
 use Rattle.search.specs.Calls.{Table, begun, empty, Answer, Judgement, judged, Does}
 use Rattle.search.specs.Calls.Call.{declare, post, wipe}
-use Rattle.planner.specs.declared.refusal.Refusal.{Refusal}
-use Rattle.planner.specs.Refusals.{refusal_number}
+use Rattle.table.specs.declared.refusal.Refusal.{Refusal}
+use Rattle.table.specs.Refusals.{refusal_number}
 use Rattle.sheets.specs.declared.fault.Cause.{Cause}
 use Rattle.sheets.specs.declared.fault.Cause.TheVariants.{Declined}
 use Rattle.sheets.specs.Causes.{cause_number, cause_layer, cause_offset}

@@ -6,8 +6,8 @@ use Rattle.rows.specs.Rows.{RowData, Meaning}
 use Rattle.rows.specs.Laws.{Laws}
 use Rattle.rows.specs.Bytes.{Bytes, head_length, lettered, counted, right_length, marked, Layout, LaidOut, decode, encode}
 use Rattle.rows.proofs.Layouts.{bytes_both_ways}
-use Rattle.writing.specs.WrittenRows.{written_row}
-use Rattle.writing.proofs.RowBytes.{row_same}
+use Rattle.rows.specs.WrittenRows.{written_row}
+use Rattle.rows.proofs.RowBytes.{row_same}
 use Rattle.stores.specs.Behaviours.{Behaviour}
 use Rattle.stores.specs.Bare.{bare}
 use Rattle.search.specs.Calls.{Table, begun, Call, Answer, Judgement, reasons, judged, Does}

@@ -1,6 +1,6 @@
 -- The number and the layer of each reason to decline a sheet.
 use Rattle.std.specs.Prelude.{ℕ, cond, List, codes, nat_le}
-use Rattle.planner.specs.Refusals.{refusal_number}
+use Rattle.table.specs.Refusals.{refusal_number}
 use Rattle.sheets.specs.declared.fault.Cause.{Cause}
 use Rattle.sheets.specs.declared.fault.Cause.TheVariants.{NoRecord, LateVoice, Trailing, CutVoice, Declined}
 use Rattle.sheets.specs.declared.fault.Layer.{Layer}

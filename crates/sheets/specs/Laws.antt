@@ -6,7 +6,7 @@ use Rattle.rows.specs.Bytes.{Bytes, encode}
 use Rattle.search.specs.Calls.{Call, Answer, begun}
 use Rattle.search.specs.Calls.Call.{declare, post, wipe}
 use Rattle.search.specs.Calls.Answer.{done}
-use Rattle.search.specs.Placed.{AllAccepted}
+use Rattle.rows.specs.Placed.{AllAccepted}
 use Rattle.search.specs.Results.{Limited}
 use Rattle.sheets.specs.declared.fault.Layer.{Layer}
 use Rattle.sheets.specs.Sheets.{records, sheet}

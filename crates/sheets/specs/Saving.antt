@@ -7,10 +7,10 @@ use Rattle.stores.specs.Behaviours.{Behaviour}
 use Rattle.search.specs.Calls as calls
 use Rattle.search.specs.Calls.{Call, Answer}
 use Rattle.search.specs.Histories.{History}
-use Rattle.planner.specs.declared.refusal.Refusal.{Refusal}
-use Rattle.planner.specs.declared.refusal.Refusal.TheVariants.{ShortBuffer}
-use Rattle.planner.specs.declared.table.Table.{Table}
-use Rattle.planner.specs.Shown.{model}
+use Rattle.table.specs.declared.refusal.Refusal.{Refusal}
+use Rattle.table.specs.declared.refusal.Refusal.TheVariants.{ShortBuffer}
+use Rattle.table.specs.declared.table.Table.{Table}
+use Rattle.table.specs.Shown.{model}
 use Rattle.sheets.specs.Sheets.{sheet}
 use Rattle.sheets.specs.Reading.{read_sheet}
 use Rattle.sheets.specs.Reading.Outcome.{accepted}

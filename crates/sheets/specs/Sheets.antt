@@ -1,7 +1,7 @@
 -- A sheet, a table's voices and rows as bytes: for each voice hex 56 and its opening set in 8 bytes, low byte first; then the rows; then hex 5A.
 use Rattle.std.specs.Prelude.{ℕ, zero, suc, ◌+◌, ◌*◌, ◌/◌, ◌%◌, List, [], ◌∷◌, ◌++◌, flat_map}
 use Rattle.rows.specs.Rows.{RowData}
-use Rattle.writing.specs.WrittenRows.{written_row}
+use Rattle.rows.specs.WrittenRows.{written_row}
 
 -- a number in so many bytes, low byte first
 abbrev pub low_first : ℕ → ℕ → List ℕ

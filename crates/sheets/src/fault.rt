@@ -3,7 +3,7 @@ ghost use Rattle.std.specs.Prelude.{◌≡◌, Some, decimal};
 ghost use Rattle.sheets.specs.declared.fault.Cause.TheVariants.{Declined};
 ghost use Rattle.sheets.specs.Causes.{cause_number, layer_name, cause_layer, cause_offset};
 
-use planner::refusal::Refusal;
+use table::refusal::Refusal;
 use std::fmt;
 
 // Who declines: the reader of the sheet, the reader of a row with its kind, or the table.

@@ -1,14 +1,14 @@
 // Sheets loaded.
 ghost use Rattle.std.specs.Prelude.{◌≡◌, true, false, is_err};
 ghost use Rattle.search.specs.Calls.{empty, Call, Answer};
-ghost use Rattle.planner.specs.Shown.{model, store_in, CallDone};
+ghost use Rattle.table.specs.Shown.{model, store_in, CallDone};
 ghost use Rattle.sheets.specs.Reading.{front_row, voice_item, row_item, item_at, read_sheet};
 ghost use Rattle.sheets.specs.Loading.{load_answer, outcome_answer, LoadLeaves, LoadBack, LoadLasts, Unsearched, ItemRead, RecordsRead};
 ghost use Rattle.sheets.specs.Saving.{sheet_of};
 
 use crate::fault::{Cause, SheetFault};
 use crate::marks::{END_MARK, VOICE_MARK};
-use planner::table::Table;
+use table::Table;
 use rows::bank::Bank;
 use stores::store::Store;
 

@@ -1,15 +1,15 @@
 // Records, written one after the other.
 ghost use Rattle.std.specs.Prelude.{ℕ, List, flat_map};
 ghost use Rattle.rows.specs.Views.{row_of};
-ghost use Rattle.writing.specs.Written.{Wrote};
-ghost use Rattle.writing.specs.WrittenRows.{written_member, written_row};
+ghost use Rattle.rows.specs.Written.{Wrote};
+ghost use Rattle.rows.specs.WrittenRows.{written_member, written_row};
 ghost use Rattle.sheets.specs.Sheets.{voice_record};
 
 use crate::marks::VOICE_MARK;
 use rows::member::{MEMBER_MARK, Member};
 use rows::row::Row;
 use sets::ValueSet;
-use writing::writer::Writer;
+use rows::writer::Writer;
 
 // What is saved as bytes.
 pub(crate) trait Record {

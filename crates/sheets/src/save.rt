@@ -1,15 +1,15 @@
 // Tables saved as sheets.
 ghost use Rattle.std.specs.Prelude.{◌≡◌};
-ghost use Rattle.planner.specs.Shown.{model, store_in};
+ghost use Rattle.table.specs.Shown.{model, store_in};
 ghost use Rattle.sheets.specs.Saving.{sheet_of, written_answer, buffer_after, LoadsAgain};
 
 use crate::marks::END_MARK;
 use crate::record::write_all;
-use planner::refusal::Refusal;
-use planner::table::Table;
+use table::refusal::Refusal;
+use table::Table;
 use rows::bank::Bank;
 use stores::store::Store;
-use writing::writer::Writer;
+use rows::writer::Writer;
 
 // Writes the table's sheet at the front of `out`, and answers its length; bytes beyond it stay.
 pub fn save<B: Bank, S: Store>(table: &Table<B, S>, out: &mut [u8]) -> Result<usize, Refusal>

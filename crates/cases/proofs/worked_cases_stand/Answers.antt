@@ -1,4 +1,4 @@
-use Rattle.kinds.proofs.Computed.{cases_stand}
+use Rattle.cases.proofs.TurnsComputed.{cases_stand}
 use Rattle.cases.proofs.Computed.{searches_stand}
 use Rattle.cases.proofs.worked_cases_stand.Goals as goal
 

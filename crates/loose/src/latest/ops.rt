@@ -4,14 +4,14 @@ ghost use Rattle.stores.specs.Stores.{fits};
 ghost use Rattle.stores.specs.Behaviours.{Decided, TurnsAway};
 ghost use Rattle.search.specs.Calls.{Call};
 ghost use Rattle.search.specs.Theorems.{OneHistory};
-ghost use Rattle.planner.specs.Shown.{found_in, CallDone, solve_answer};
+ghost use Rattle.table.specs.Shown.{found_in, CallDone, solve_answer};
 ghost use Rattle.loose.specs.LatestKey.{state_of};
 ghost use Rattle.loose.specs.LatestLaws.{latest};
 
 use crate::latest::Latest;
-use engine::outcome::Outcome;
-use planner::refusal::Refusal;
-use planner::table::Table;
+use table::outcome::Outcome;
+use table::refusal::Refusal;
+use table::Table;
 use rows::bank::Bank;
 use stores::store::{Store, Stored};
 

@@ -1,7 +1,7 @@
 use Rattle.std.specs.Prelude.{length}
 use Rattle.std.proofs.Common.{sym, ◌∙◌}
 use Rattle.std.proofs.lemmas.Bool.{both_ways}
-use Rattle.narrowing.proofs.Narrowing.{unchanged}
+use Rattle.rows.proofs.Narrowed.{unchanged}
 use Rattle.rows.specs.Views.{row_of}
 use Rattle.loose.specs.Loose.{unasked}
 use Rattle.loose.specs.LooseLaws.{asked}

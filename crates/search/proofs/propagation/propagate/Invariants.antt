@@ -1,5 +1,5 @@
 use Rattle.std.proofs.Common.{◌≡◌, suc, ◌-◌, drop}
-use Rattle.search.specs.Placed.{Ready}
+use Rattle.rows.specs.Placed.{Ready}
 use Rattle.search.specs.Propagation.{rounds, propagated}
 use Rattle.search.specs.Results.{Stable}
 use Rattle.rows.specs.Views.{rows_of}

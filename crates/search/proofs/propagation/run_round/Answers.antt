@@ -3,7 +3,7 @@ use Rattle.std.proofs.lemmas.Bool.{not-false}
 use Rattle.sets.specs.Placings.{same, some_empty}
 use Rattle.sets.proofs.Lists.{same_is}
 use Rattle.rows.specs.Views.{rows_of}
-use Rattle.search.specs.Placed.{Ready}
+use Rattle.rows.specs.Placed.{Ready}
 use Rattle.search.specs.Propagation.{round, round_from}
 use Rattle.search.specs.declared.propagation.RoundEnd.{RoundEnd}
 use Rattle.search.specs.Rounds.{due_of, is_emptied}

@@ -1,6 +1,6 @@
 use Rattle.std.proofs.Common.{◌≡◌, false, drop, is_some}
 use Rattle.rows.specs.Views.{rows_of}
-use Rattle.search.specs.Placed.{Ready}
+use Rattle.rows.specs.Placed.{Ready}
 use Rattle.search.specs.Propagation.{round, round_from}
 use Rattle.search.specs.Results.{Stable}
 use Rattle.search.specs.Rounds.{due_of, is_emptied}

@@ -1,6 +1,6 @@
 use Rattle.std.proofs.Common.{ap}
 use Rattle.rows.specs.Bytes.{Bytes}
-use Rattle.planner.specs.Shown.{model, store_in}
+use Rattle.table.specs.Shown.{model, store_in}
 use Rattle.sheets.proofs.Steps.{wiped}
 use Rattle.sheets.proofs.LawsHold.{Loaded, answers, leaves, lasts, loads_back}
 use Rattle.sheets.proofs.load.load.Goals as goal

@@ -1,7 +1,7 @@
 use Rattle.std.proofs.Common.{◌+◌, ◌-◌, length, Ok, sym, ap, ◌∙◌, subst, arith, rules}
 use Rattle.std.proofs.lemmas.List.{take_rest, length-drop}
 use Rattle.rows.specs.Bytes.{Bytes}
-use Rattle.planner.specs.Shown.{model, store_in}
+use Rattle.table.specs.Shown.{model, store_in}
 use Rattle.sheets.proofs.Steps.{Left, all_left, at_left, more_left, ended, faulted}
 use Rattle.sheets.proofs.load.read_records.Goals as goal
 

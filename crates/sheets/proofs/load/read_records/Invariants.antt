@@ -1,5 +1,5 @@
 use Rattle.std.proofs.Common.{length}
-use Rattle.planner.specs.Shown.{model, store_in}
+use Rattle.table.specs.Shown.{model, store_in}
 use Rattle.sheets.proofs.Steps.{Left}
 use Rattle.sheets.proofs.load.read_records.Given as goal
 

@@ -2,7 +2,7 @@ use Rattle.std.proofs.Common.{ℕ, List, length, Some, Ok, Err, ap, ◌∙◌, s
 use Rattle.std.proofs.lemmas.Result.{err_from_is_err_and}
 use Rattle.search.specs.Calls.{begun, judged}
 use Rattle.search.specs.Calls.Call.{post}
-use Rattle.planner.specs.Shown.{model, store_in}
+use Rattle.table.specs.Shown.{model, store_in}
 use Rattle.sheets.specs.Reading.{if_passes}
 use Rattle.sheets.specs.Reading.Item.{row}
 use Rattle.sheets.specs.Loading.{ItemRead}

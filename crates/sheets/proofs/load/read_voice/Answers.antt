@@ -6,7 +6,7 @@ use Rattle.std.proofs.lemmas.Bool.{eqb-true, eqb-false}
 use Rattle.rows.specs.Views.{row_of}
 use Rattle.search.specs.Calls.{begun, judged}
 use Rattle.search.specs.Calls.Call.{declare}
-use Rattle.planner.specs.Shown.{model, store_in, rows_in}
+use Rattle.table.specs.Shown.{model, store_in, rows_in}
 use Rattle.sheets.specs.declared.fault.Cause.TheVariants.{LateVoice, CutVoice}
 use Rattle.sheets.specs.declared.fault.Layer.TheVariants.{Sheet}
 use Rattle.sheets.specs.Sheets.{number_in}

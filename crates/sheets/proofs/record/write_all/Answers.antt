@@ -1,4 +1,4 @@
-use Rattle.writing.proofs.Texts.{wrote_none, wrote_more}
+use Rattle.rows.proofs.Texts.{wrote_none, wrote_more}
 use Rattle.sheets.proofs.record.write_all.Goals as goal
 
 pub loop-item-init : goal.loop-item-init

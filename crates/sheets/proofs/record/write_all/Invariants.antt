@@ -1,5 +1,5 @@
 use Rattle.std.proofs.Common.{take, flat_map}
-use Rattle.writing.specs.Written.{Wrote}
+use Rattle.rows.specs.Written.{Wrote}
 use Rattle.sheets.proofs.record.write_all.Given as goal
 
 abbrev pub invariant-loop-item : goal.invariant-loop-item

@@ -1,10 +1,10 @@
 use Rattle.std.proofs.Common.{◌≡◌, ◌+◌, ◌*◌, ◌<◌, ◌≤◌, length, vec_items, sym, ap, ◌∙◌, arith, rules}
 use Rattle.std.proofs.lemmas.List.Folds.{flat_map-map}
 use Rattle.rows.specs.Views.{row_of}
-use Rattle.planner.specs.Shown.{model, store_in, rows_in}
-use Rattle.writing.specs.Written.{written}
-use Rattle.writing.specs.WrittenRows.{written_row}
-use Rattle.writing.proofs.Texts.{wrote_two, same_text, wrote_front}
+use Rattle.table.specs.Shown.{model, store_in, rows_in}
+use Rattle.rows.specs.Written.{written}
+use Rattle.rows.specs.WrittenRows.{written_row}
+use Rattle.rows.proofs.Texts.{wrote_two, same_text, wrote_front}
 use Rattle.sheets.specs.Sheets.{row_records, voice_records}
 use Rattle.sheets.specs.Saving.{sheet_of}
 use Rattle.sheets.proofs.LawsHold.{saves_again}

@@ -1,6 +1,6 @@
 use Rattle.std.proofs.Common.{ℕ, [], ◌∷◌, ap}
-use Rattle.writing.specs.WrittenRows.{written_members}
-use Rattle.writing.proofs.Texts.{wrote_two, same_text}
+use Rattle.rows.specs.WrittenRows.{written_members}
+use Rattle.rows.proofs.Texts.{wrote_two, same_text}
 use Rattle.sheets.proofs.record.RowRecord.write.Goals as goal
 
 pub returns : goal.returns

@@ -1,5 +1,5 @@
 use Rattle.std.proofs.Common.{ℕ, List, ◌∷◌, ap, ◌∙◌}
-use Rattle.writing.proofs.Texts.{wrote_two, same_text}
+use Rattle.rows.proofs.Texts.{wrote_two, same_text}
 use Rattle.sheets.proofs.Pieces.{low_first_8}
 use Rattle.sheets.proofs.record.ValueSetRecord.write.Goals as goal
 

@@ -1,9 +1,0 @@
-use Rattle.std.proofs.Common.{◌≡◌, take}
-use Rattle.sets.specs.Placings.{changed}
-use Rattle.all_different.specs.Differing.{takes}
-use Rattle.all_different.proofs.AllDifferentKind.turn.Given as goal
-
-abbrev pub invariant-loop-m : goal.invariant-loop-m
-invariant-loop-m l =
-    (l.sets ≡ takes l.members (take l.m-index l.members) l.initial.sets)
-    × (l.took ≡ changed l.sets l.initial.sets)

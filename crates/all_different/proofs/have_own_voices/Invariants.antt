@@ -1,9 +1,0 @@
-use Rattle.std.proofs.Common.{◌≡◌, map, length}
-use Rattle.narrowing.specs.Shared.{distinct}
-use Rattle.all_different.proofs.have_own_voices.Given as goal
-
-abbrev pub invariant-loop-left : goal.invariant-loop-left
-invariant-loop-left l = distinct (map (λ m. m.voice) l.left) ≡ distinct (map (λ m. m.voice) l.members)
-
-abbrev pub decreases-loop-left : goal.decreases-loop-left
-decreases-loop-left l = length l.left

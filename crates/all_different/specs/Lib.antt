@@ -1,2 +1,0 @@
-pub mod Differing
-pub mod DifferingLaws

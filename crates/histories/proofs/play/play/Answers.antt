@@ -1,0 +1,54 @@
+use Rattle.std.proofs.Common.{◌≡◌, List, ◌∷◌, length, take, reverse, vec_items, sym, ap, ◌∙◌, subst, arith}
+use Rattle.table.specs.Shown.{model, store_in}
+use Rattle.histories.specs.declared.reply.Reply.{Reply}
+use Rattle.histories.specs.declared.reply.Standing.{Standing}
+use Rattle.histories.specs.Meant.{call_of, answer_of, calls_of, answers_of, standings_of}
+use Rattle.histories.specs.Told.{told, standings}
+use Rattle.histories.proofs.Telling.{Counted, none_counted, counted_then, one_more, all_played}
+use Rattle.histories.proofs.play.play.Goals as goal
+
+pub loop-call-init : goal.loop-call-init
+loop-call-init g c =
+    let H = c.in_ok-table.ensures in
+    let e : standings H ≡ reverse (standings_of (vec_items c.in_ok-replies.replies)) =
+    none_counted g.S.Store.behaviour g.B.Bank.meaning (g.S.Store.state c.args.store) H ∙ ap (λ (ys : List Reply). reverse (standings_of ys)) (sym c.in_ok-replies.ensures.items) in
+    (c.in_ok-replies.ensures.len, omega (arith, c.in_ok-replies.ensures.capacity), (0, (H, e)))
+
+pub loop-call-preserved : goal.loop-call-preserved
+loop-call-preserved g c =
+    let st = g.S.Store.behaviour in
+    let m = g.B.Bank.meaning in
+    let given = g.S.Store.state c.args.store in
+    let xs = c.args.calls.now in
+    let ys = vec_items c.loop-call.replies in
+    let i = c.loop-call.call-index in
+    let before = c.loop-call.invariant.2 in
+    let t = c.loop-call.table in
+    let u = c.perform.new.table in
+    let d = c.in_ok-perform.ensures.does in
+    let x = c.call-item.result in
+    let a = c.in_ok-perform.field-0 in
+    let k = c.of.result in
+    let many : length ys ≡ i = omega (arith, c.loop-call.replies.ok, c.loop-call.invariant.0) in (
+      omega (arith, c.push_reserved.ensures.len, c.loop-call.invariant.0),
+      omega (arith, c.push_reserved.ensures.capacity, c.loop-call.invariant.1),
+      (
+        d.lost before.0,
+        one_more st m given {t = model u (d.lost before.0)} {s = store_in u} xs ys (vec_items c.push_reserved.new.self) i x (record { answer = a; standing = k }) c.loop-call-test.true many
+            c.call-item.is c.push_reserved.ensures.items
+            (subst
+            (λ (z : Standing). Counted st m given ((call_of x, answer_of a) ∷ told (calls_of (take i xs)) (answers_of ys)) (z ∷ reverse (standings_of ys)) (model u (d.lost before.0)) (store_in u))
+            (sym c.of.ensures)
+            (counted_then st m given (model t) (model u) (store_in t) (store_in u) (call_of x) (answer_of a) before.0 c.in_ok-perform.ensures.lasts d before.1)),
+      ),
+    )
+
+pub returns : goal.returns
+returns g c =
+    let ys = vec_items c.loop-call.replies in
+    let i = c.loop-call.call-index in
+    let t = c.loop-call.table in
+    let before = c.loop-call.invariant.2 in
+    let many : length ys ≡ i = omega (arith, c.loop-call.replies.ok, c.loop-call.invariant.0) in
+    all_played g.S.Store.behaviour g.B.Bank.meaning g.met.B.Bank.lawful (g.S.Store.state c.args.store) c.args.calls.now ys i (model t before.0) (store_in t) c.loop-call-test.false
+    c.loop-call.auto.call-index-end many before.1

@@ -1,0 +1,14 @@
+use Rattle.std.proofs.Common.{◌≡◌, ℕ, ◌≤◌, length, take, reverse, vec_items, vec_len, vec_capacity}
+use Rattle.table.specs.Shown.{model, store_in}
+use Rattle.histories.specs.Meant.{calls_of, answers_of, standings_of}
+use Rattle.histories.specs.Told.{told}
+use Rattle.histories.proofs.Telling.{Counted}
+use Rattle.histories.proofs.play.play.Given as goal
+
+abbrev pub invariant-loop-call : goal.invariant-loop-call
+invariant-loop-call g l =
+    let ys = vec_items l.replies in
+    (vec_len l.replies ≡ l.call-index)
+    × (length l.calls ≤ vec_capacity l.replies)
+    × ((j : ℕ)
+    × Counted g.S.Store.behaviour g.B.Bank.meaning (g.S.Store.state l.fn.store) (told (calls_of (take l.call-index l.calls)) (answers_of ys)) (reverse (standings_of ys)) (model l.table j) (store_in l.table))

@@ -1,0 +1,85 @@
+// One call performed.
+ghost use Rattle.std.specs.Prelude.{◌≡◌, true, false, is_ok, IfOk, OnErr};
+ghost use Rattle.search.specs.Calls.{Call as CallOf};
+ghost use Rattle.table.specs.Shown.{CallDone, CallLasts, done_answer};
+ghost use Rattle.histories.specs.Meant.{call_of, answer_of, wants_memory};
+
+use crate::call::{Answer, Call};
+use table::outcome::Outcome;
+use table::refusal::Refusal;
+use table::{MOST_VOICES, Table};
+use rows::bank::Bank;
+use std::alloc::{AllocError, Global};
+use stores::store::Store;
+
+// The answer of a Declare or a Post.
+fn done_or_refused(res: Result<(), Refusal>) -> Answer
+    ensures { answer_of result ≡ done_answer res }
+{
+    match res {
+        Ok(()) => Answer::Done,
+        Err(refusal) => Answer::Refused(refusal),
+    }
+}
+
+// A Solve. Memory for the values is there before it begins.
+fn perform_solve<B: Bank, S: Store>(
+    table: &mut Table<B, S>,
+    heap: Global,
+    budget: u64,
+) -> Result<Answer, AllocError>
+    ensures does { IfOk result (λ a. CallDone table.old (CallOf.solve budget) (answer_of a) table.new) }
+    ensures lasts { IfOk result (λ a. CallLasts table.old (CallOf.solve budget) (answer_of a) table.new) }
+    ensures kept { OnErr result (table.new ≡ table.old) }
+{
+    let mut values = vec![in heap; 0u8; MOST_VOICES]?;
+    match table.solve(budget) {
+        Err(refusal) => Ok(Answer::Refused(refusal)),
+        Ok(Outcome::Stopped) => Ok(Answer::Stopped),
+        Ok(Outcome::None) => Ok(Answer::None),
+        Ok(Outcome::Found) => {
+            let count = table.read(&mut values).unwrap();
+            values.truncate(count);
+            Ok(Answer::Found(values))
+        }
+    }
+}
+
+// A Read, over a copy of the bytes.
+fn perform_read<B: Bank, S: Store>(
+    table: &Table<B, S>,
+    heap: Global,
+    bytes: &[u8],
+) -> Result<Answer, AllocError>
+    ensures does { IfOk result (λ a. CallDone table.now (CallOf.read bytes.now) (answer_of a) table.now) }
+    ensures lasts { IfOk result (λ a. CallLasts table.now (CallOf.read bytes.now) (answer_of a) table.now) }
+{
+    let mut buffer = bytes.to_vec(heap)?;
+    match table.read(&mut buffer) {
+        Ok(count) => Ok(Answer::Wrote(count, buffer)),
+        Err(refusal) => Ok(Answer::Refused(refusal)),
+    }
+}
+
+// Performs the call on the table. Only where the call wants memory there may be none; the table is as it was then.
+pub fn perform<B: Bank, S: Store>(
+    table: &mut Table<B, S>,
+    heap: Global,
+    call: &Call,
+) -> Result<Answer, AllocError>
+    ensures does { IfOk result (λ a. CallDone table.old (call_of call.now) (answer_of a) table.new) }
+    ensures lasts { IfOk result (λ a. CallLasts table.old (call_of call.now) (answer_of a) table.new) }
+    ensures kept { OnErr result (table.new ≡ table.old) }
+    ensures answers { wants_memory call.now ≡ false → is_ok result ≡ true }
+{
+    match call {
+        Call::Declare(set) => Ok(done_or_refused(table.declare(*set))),
+        Call::Post(bytes) => Ok(done_or_refused(table.post(bytes))),
+        Call::Solve(budget) => perform_solve(table, heap, *budget),
+        Call::Read(bytes) => perform_read(table, heap, bytes),
+        Call::Wipe => {
+            table.wipe();
+            Ok(Answer::Done)
+        }
+    }
+}

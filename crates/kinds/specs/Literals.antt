@@ -1,0 +1,47 @@
+-- The kind C, hex 43: some literal is true.
+use Rattle.std.specs.Prelude.{ℕ, ◌-◌, Bool, false, cond, not, ◌&&◌, List, [], ◌∷◌, take, ◌==◌, nat_lt, unsigned_abs}
+use Rattle.std.specs.Int.Signed.{non_neg}
+use Rattle.sets.specs.Sets.{sift}
+use Rattle.std.specs.List.{filter, list_all, list_any}
+use Rattle.rows.specs.declared.member.Member.{Member}
+use Rattle.rows.specs.Rows.{RowData, KindMeaning}
+use Rattle.rows.specs.Shared.{cuts, at, shaped, verdict, declared}
+use Rattle.rows.specs.declared.trace.Trace.TheVariants.{Settled, Open}
+
+-- what the literal says of the voice's value: it is the argument; from 64 on, it is not the argument less 64
+abbrev pub says : Member → ℕ → Bool
+says m v = cond (nat_lt (unsigned_abs m.argument) 64) (v == unsigned_abs m.argument) (not (v == unsigned_abs m.argument - 64))
+
+-- false for all values of its set, and true for all
+abbrev pub refuted : List ℕ → Member → Bool
+refuted s m = sift (says m) (at s m) == 0
+
+abbrev pub certain : List ℕ → Member → Bool
+certain s m = sift (λ v. not (says m v)) (at s m) == 0
+
+-- true for some value of its set: not refuted
+abbrev pub stands : List ℕ → Member → Bool
+stands s m = not (refuted s m)
+
+-- by the literals that are not refuted: none, and the first member's set becomes empty; one, and its set loses the values that make it false
+abbrev pub units : List Member → List Member → List ℕ → List ℕ
+units [] ms s = cuts (λ _ _. false) (take 1 ms) s
+units (m ∷ []) ms s = cuts says (m ∷ []) s
+units (m ∷ (n ∷ rest)) ms s = s
+
+-- an argument from 0 to 127
+abbrev pub in_range : Member → Bool
+in_range m = non_neg m.argument && nat_lt (unsigned_abs m.argument) 128
+
+abbrev pub clause_rule : RowData → Bool
+clause_rule r = list_all in_range r.members
+
+abbrev pub clause : KindMeaning
+clause = record {
+  letter = 0x43;
+  body_length = 1;
+  accepts = λ r n. verdict (shaped 0x43 1 r) (declared n r) (clause_rule r);
+  holds = λ r p. list_any (λ m. says m (at p m)) r.members;
+  turn = λ r s. units (filter (stands s) r.members) r.members s;
+  trace = λ r s. cond (list_any (certain s) r.members) Settled (Open 0);
+}

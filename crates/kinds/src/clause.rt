@@ -1,0 +1,143 @@
+// The kind C: some literal is true. A literal is a member; its argument a says "the value is a" below 64, and "the value is not a - 64" from there on.
+ghost use Rattle.std.specs.Prelude.{◌≡◌, refl, false, take, position};
+ghost use Rattle.sets.specs.Sets.{mask};
+ghost use Rattle.sets.specs.Placings.{changed};
+ghost use Rattle.std.specs.List.{list_all, list_any};
+ghost use Rattle.rows.specs.Views.{row_of};
+ghost use Rattle.rows.specs.Shared.{cuts};
+ghost use Rattle.kinds.specs.Literals.{says, refuted, certain, stands, in_range, clause};
+ghost use Rattle.kinds.specs.LiteralsLaws.{clause_lawful};
+
+use rows::narrowing::{are_declared, is_shaped, judge, keep_only, set_of};
+use rows::fault::Fault;
+use rows::kind::Kind;
+use rows::member::Member;
+use rows::row::Row;
+use rows::trace::Trace;
+use sets::{ValueSet, single};
+
+// The values that make a literal true.
+fn true_values(literal: Member) -> ValueSet
+    ensures { result ≡ mask 64 (says literal) }
+{
+    let argument = u32::from(literal.argument.unsigned_abs());
+    if argument < 64 {
+        single(argument)
+    } else {
+        !single(argument - 64)
+    }
+}
+
+// Whether a literal is false for all values of its voice's set.
+fn is_refuted(literal: Member, sets: &[ValueSet]) -> bool
+    ensures { result ≡ refuted sets.now literal }
+{
+    set_of(sets, literal.voice) & true_values(literal) == 0
+}
+
+// Whether a literal is true for all values of its voice's set.
+fn is_certain(literal: Member, sets: &[ValueSet]) -> bool
+    ensures { result ≡ certain sets.now literal }
+{
+    set_of(sets, literal.voice) & !true_values(literal) == 0
+}
+
+// The place of the first literal that is not refuted.
+fn first_standing(literals: &[Member], sets: &[ValueSet]) -> Option<usize>
+    ensures { result ≡ position (stands sets.now) literals.now }
+{
+    literals.iter().position(|m| !is_refuted(*m, sets))
+}
+
+// Whether all literals are refuted.
+fn are_refuted(literals: &[Member], sets: &[ValueSet]) -> bool
+    ensures { result ≡ list_all (refuted sets.now) literals.now }
+{
+    literals.iter().all(|m| is_refuted(*m, sets))
+}
+
+// Empties the set of the first literal's voice; says whether a value went.
+fn empty_first(literals: &[Member], sets: &mut [ValueSet]) -> bool
+    ensures after { sets.new ≡ cuts (λ _ _. false) (take 1 literals.now) sets.old }
+    ensures value { result ≡ changed sets.new sets.old }
+{
+    match literals {
+        [] => false,
+        [m, ..] => keep_only(sets, m.voice, 0),
+    }
+}
+
+// Whether some literal is certain.
+fn is_settled(literals: &[Member], sets: &[ValueSet]) -> bool
+    ensures { result ≡ list_any (certain sets.now) literals.now }
+{
+    literals.iter().any(|m| is_certain(*m, sets))
+}
+
+// The greatest argument of a literal.
+const LAST_ARGUMENT: i16 = 127;
+
+// Whether a literal's argument is from 0 to 127.
+fn is_in_range(literal: Member) -> bool
+    ensures { result ≡ in_range literal }
+{
+    (0..=LAST_ARGUMENT).contains(&literal.argument)
+}
+
+// Whether all literals' arguments are.
+fn are_in_range(literals: &[Member]) -> bool
+    ensures { result ≡ list_all in_range literals.now }
+{
+    literals.iter().all(|m| is_in_range(*m))
+}
+
+// Rows of which some literal is true.
+pub struct Clause;
+
+impl Kind for Clause {
+    ghost meaning = { clause };
+
+    const LETTER: u8 = b'C';
+
+    ghost LETTER = { clause.letter };
+
+    ghost own_letter = { refl };
+
+    const BODY_LENGTH: usize = 1;
+
+    ghost BODY_LENGTH = { clause.body_length };
+
+    ghost own_length = { refl };
+
+    ghost lawful = { clause_lawful };
+
+    fn accept(row: &Row, voices: usize) -> Result<(), Fault> {
+        let shape = is_shaped(row, Clause::LETTER, Clause::BODY_LENGTH);
+        let declared = are_declared(row.members(), voices);
+        let rule = are_in_range(row.members());
+        judge(shape, declared, rule)
+    }
+
+    // By the literals that are not refuted: where there are none, the first member's set becomes empty; the only one becomes true; several tell nothing.
+    fn turn(row: &Row, sets: &mut [ValueSet]) -> bool
+        ensures after { sets.new ≡ clause.turn (row_of row.now) sets.old }
+        ensures value { result ≡ changed sets.new sets.old }
+    {
+        let literals = row.members();
+        let Some(first) = first_standing(literals, sets) else {
+            return empty_first(literals, sets);
+        };
+        if !are_refuted(&literals[first + 1..], sets) {
+            return false;
+        }
+        keep_only(sets, literals[first].voice, true_values(literals[first]))
+    }
+
+    fn trace(row: &Row, sets: &[ValueSet]) -> Trace {
+        if is_settled(row.members(), sets) {
+            Trace::Settled
+        } else {
+            Trace::Open(0)
+        }
+    }
+}

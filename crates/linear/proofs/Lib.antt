@@ -1,3 +1,0 @@
-pub mod Adding
-pub mod Passes
-pub mod Slacks

@@ -1,7 +1,0 @@
-use Rattle.std.proofs.Common.{◌≡◌, take, false}
-use Rattle.sets.specs.Placings.{changed}
-use Rattle.narrowing.specs.Shared.{cuts}
-use Rattle.linear.proofs.empty_all.Given as goal
-
-abbrev pub invariant-loop-m : goal.invariant-loop-m
-invariant-loop-m l = (l.sets ≡ cuts (λ m v. false) (take l.m-index l.members) l.initial.sets) × (l.took ≡ changed l.sets l.initial.sets)

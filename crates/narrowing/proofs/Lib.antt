@@ -1,5 +1,0 @@
-pub mod Cuts
-pub mod Members
-pub mod Narrowing
-pub mod Scans
-pub mod Masked

@@ -1,4 +1,0 @@
-pub mod Calling
-pub mod Judging
-pub mod Posting
-pub mod Readying

@@ -1,3 +1,0 @@
-pub mod Refusals
-pub mod Lasting
-pub mod Shown

@@ -1,5 +1,0 @@
-// The table of voices and rows, and its calls.
-#![tactic(auto)]
-
-pub mod refusal;
-pub mod table;

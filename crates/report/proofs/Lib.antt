@@ -1,3 +1,0 @@
-pub mod Lengths
-pub mod Pieces
-pub mod Finding

@@ -1,5 +1,0 @@
-use Rattle.writing.proofs.Texts.{wrote_two}
-use Rattle.report.proofs.lines.put_value.Goals as goal
-
-pub returns : goal.returns
-returns c = wrote_two c.put_number.ensures (wrote_two c.put.ensures (wrote_two c.put_number-2.ensures c.put_end.ensures))

@@ -1,0 +1,177 @@
+-- What a call does, from what its code leaves; and what then lasts over whole histories.
+use Rattle.std.proofs.Common.{◌≡◌, ℕ, ◌+◌, ◌≤◌, false, ◌⊎◌, List, [], ◌∷◌, ◌++◌, length, drop, Ok, Err, Result, OnErr, vec_items, sym, refl, ap, ◌∙◌, subst, inl, inr, arith}
+use Rattle.std.proofs.lemmas.List.{length-map}
+use Rattle.sets.specs.Sets.{least}
+use Rattle.sets.specs.Placings.{values}
+use Rattle.rows.specs.Rows.{RowData, Meaning}
+use Rattle.rows.specs.Laws.{Laws}
+use Rattle.rows.specs.Bytes.{decode}
+use Rattle.stores.specs.Behaviours.{Behaviour}
+use Rattle.search.specs.Search.{Level, Place}
+use Rattle.search.specs.Search.Place.{fresh, going, found, none}
+use Rattle.search.specs.Calls.{Table, begun, Call, Answer, Formed, Judgement, judged, is_found, result, says, Does}
+use Rattle.search.specs.Calls.Call.{declare, post, solve, read, wipe}
+use Rattle.search.specs.Histories.{History}
+use Rattle.search.proofs.AnyStore.{goes_any}
+use Rattle.search.proofs.AnswerFacts.{goes_kept}
+use Rattle.search.proofs.OverEvery.{search_stands, answers_stand, reads_stand}
+use Rattle.table.specs.declared.engine.level.End.{End}
+use Rattle.table.specs.declared.engine.level.End.TheVariants.{Fresh, Found, Exhausted}
+use Rattle.table.specs.declared.outcome.Outcome.{Outcome}
+use Rattle.table.specs.declared.outcome.Outcome.TheVariants as out
+use Rattle.table.specs.declared.engine.state.Search.{Search}
+use Rattle.table.specs.Places.{place_of}
+use Rattle.table.specs.Searches.{place, table_of, Begun, outcome_of, Runs}
+use Rattle.table.specs.declared.refusal.Refusal.{Refusal}
+use Rattle.table.specs.Shown.{outcome_answer}
+use Rattle.table.specs.Lasting.{Done, Tells, ReadTells, Lasts}
+
+-- ---- what lasts
+
+module _ (st : Behaviour) (m : Meaning) (L : Laws m) where
+  read_tells : (g : st.State) (h : List (Call × Answer)) (buffer : List ℕ) (a : Answer) (t : Table) (v : st.State) → History st m g ((read buffer, a) ∷ h) t v → ReadTells m h buffer a
+  read_tells g h buffer Answer.done t v H = tt
+  read_tells g h buffer (Answer.refused n) t v H = tt
+  read_tells g h buffer (Answer.found p) t v H = tt
+  read_tells g h buffer Answer.none t v H = tt
+  read_tells g h buffer Answer.stopped t v H = tt
+  read_tells g h buffer (Answer.wrote n b) t v H = reads_stand st m L g [] h buffer n b t v H
+
+  tells : (g : st.State) (h : List (Call × Answer)) (c : Call) (a : Answer) (t : Table) (v : st.State) → History st m g ((c, a) ∷ h) t v → Tells m h c a
+  tells g h (declare s) a t v H = tt
+  tells g h (post bs) a t v H = tt
+  tells g h (solve b) a t v H = answers_stand st m L g [] h b a t v H
+  tells g h (read buffer) a t v H = read_tells g h buffer a t v H
+  tells g h wipe a t v H = tt
+
+  pub lasts_by : (t : ℕ → Table) (v : st.State) (c : Call) (a : Answer) (u : ℕ → Table) (w : st.State) → Formed c → Done st m t v c a u w → Lasts st m t v c a u w
+  lasts_by t v c a u w f d = record {
+    lost = d.lost;
+    history = λ g h j H. History.then h (t j) (u (d.lost j)) v w c a H f (d.does j);
+    stands = λ g h j H. search_stands st m L g ((c, a) ∷ h) (u (d.lost j)) w (History.then h (t j) (u (d.lost j)) v w c a H f (d.does j));
+    tells = λ g h j H. tells g h c a (u (d.lost j)) w (History.then h (t j) (u (d.lost j)) v w c a H f (d.does j));
+  }
+
+-- ---- a search that has not begun
+
+pub begun_table : (voices : List ℕ) (rows : List RowData) (n : ℕ) (s : Search) → Begun n s → table_of voices rows s 0 ≡ begun voices rows
+begun_table voices rows n s b =
+    let at : List Level → End → ℕ → ℕ → Table = λ ls e o x. record { voices = voices; rows = rows; place = place_of e (vec_items s.sets) ls; opened = o; exhausted = x; lost = 0 } in
+    ap (λ (ls : List Level). at ls s.end s.opened s.exhausted) b.level_none
+    ∙ ap (λ (e : End). at [] e s.opened s.exhausted) b.fresh_end
+    ∙ ap (λ (o : ℕ). at [] Fresh o s.exhausted) b.none_opened
+    ∙ ap (λ (x : ℕ). at [] Fresh 0 x) b.none_exhausted
+
+-- ---- what the calls do
+
+pub declines_by : (st : Behaviour) (m : Meaning) (t : ℕ → Table) (v : st.State) (c : Call) (n : ℕ) → ((j : ℕ) → judged m (t j) c ≡ Judgement.declined n) → Done st m t v c (Answer.refused n) t v
+declines_by st m t v c n e = record { lost = λ j. j; does = λ j. Does.declines c n (e j) }
+
+-- what holds anyway holds where a call is declined
+pub on_err : {P : Type 0} (r : Result (Unit {0}) Refusal) → P → OnErr r P
+on_err (Ok x) p = tt
+on_err (Err refusal) p = p
+
+-- declined, with a row written beyond the table's own
+pub declines_kept : (st : Behaviour) (m : Meaning) (voices : List ℕ) (rows rows' : List RowData) (s : Search) (v : st.State) (c : Call) (n : ℕ) (a : Answer) → rows' ≡ rows → a ≡ Answer.refused n
+    → ((j : ℕ) → judged m (table_of voices rows s j) c ≡ Judgement.declined n) → Done st m (table_of voices rows s) v c a (table_of voices rows' s) v
+declines_kept st m voices rows rows' s v c n a e f g =
+    subst (λ (x : List RowData). Done st m (table_of voices rows s) v c a (table_of voices x s) v) (sym e)
+    (subst (λ (x : Answer). Done st m (table_of voices rows s) v c x (table_of voices rows s) v) (sym f) (declines_by st m (table_of voices rows s) v c n g))
+
+pub declares_by : (st : Behaviour) (m : Meaning) (voices voices' : List ℕ) (rows : List RowData) (s s' : Search) (v w : st.State) (x n : ℕ) → voices' ≡ voices ++ (x ∷ []) → Begun n s'
+    → ((j : ℕ) → judged m (table_of voices rows s j) (declare x) ≡ Judgement.passes) → st.empties v w
+    → Done st m (table_of voices rows s) v (declare x) Answer.done (table_of voices' rows s') w
+declares_by st m voices voices' rows s s' v w x n e b f h =
+    let to : table_of voices' rows s' 0 ≡ begun (voices ++ (x ∷ [])) rows = begun_table voices' rows n s' b ∙ ap (λ (y : List ℕ). begun y rows) e in
+    record { lost = λ j. 0; does = λ j. subst (λ (y : Table). Does st m (table_of voices rows s j) v (declare x) Answer.done y w) (sym to) (Does.declares x w (f j) h) }
+
+pub posts_by : (st : Behaviour) (m : Meaning) (voices : List ℕ) (rows rows' : List RowData) (s s' : Search) (v w : st.State) (bs : List ℕ) (n : ℕ) → rows' ≡ rows ++ (decode m bs ∷ []) → Begun n s'
+    → ((j : ℕ) → judged m (table_of voices rows s j) (post bs) ≡ Judgement.passes) → st.empties v w
+    → Done st m (table_of voices rows s) v (post bs) Answer.done (table_of voices rows' s') w
+posts_by st m voices rows rows' s s' v w bs n e b f h =
+    let to : table_of voices rows' s' 0 ≡ begun voices (rows ++ (decode m bs ∷ [])) = begun_table voices rows' n s' b ∙ ap (λ (y : List RowData). begun voices y) e in
+    record { lost = λ j. 0; does = λ j. subst (λ (y : Table). Does st m (table_of voices rows s j) v (post bs) Answer.done y w) (sym to) (Does.posts bs w (f j) h) }
+
+pub wipes_by : (st : Behaviour) (m : Meaning) (t : ℕ → Table) (voices : List ℕ) (s : Search) (v w : st.State) (n : ℕ) → voices ≡ [] → Begun n s → st.empties v w
+    → Done st m t v wipe Answer.done (table_of voices [] s) w
+wipes_by st m t voices s v w n e b h =
+    let to : table_of voices [] s 0 ≡ begun [] [] = begun_table voices [] n s b ∙ ap (λ (y : List ℕ). begun y []) e in
+    record { lost = λ j. 0; does = λ j. subst (λ (y : Table). Does st m (t j) v wipe Answer.done y w) (sym to) (Does.wipes w h) }
+
+pub made_by : (st : Behaviour) (m : Meaning) (voices : List ℕ) (s : Search) (g w : st.State) (n : ℕ) → voices ≡ [] → Begun n s → st.empties g w
+    → History st m g [] (table_of voices [] s 0) w
+made_by st m voices s g w n e b h =
+    let to : table_of voices [] s 0 ≡ begun [] [] = begun_table voices [] n s b ∙ ap (λ (y : List ℕ). begun y []) e in
+    subst (λ (y : Table). History st m g [] y w) (sym to) (History.made w h)
+
+outcome_says : (p : Place) → outcome_answer (outcome_of p) (result p) ≡ says p
+outcome_says fresh = refl
+outcome_says (going l ls) = refl
+outcome_says (found p) = refl
+outcome_says none = refl
+
+pub solves_by : (st : Behaviour) (m : Meaning) (voices : List ℕ) (rows : List RowData) (s s' : Search) (v w : st.State) (b : ℕ) (o : Outcome) → o ≡ outcome_of (place s')
+    → ((j : ℕ) → judged m (table_of voices rows s j) (solve b) ≡ Judgement.passes) → Runs st m b (table_of voices rows s) v (table_of voices rows s') w
+    → Done st m (table_of voices rows s) v (solve b) (outcome_answer o (result (place s'))) (table_of voices rows s') w
+solves_by st m voices rows s s' v w b o e f r =
+    let a : outcome_answer o (result (place s')) ≡ says (place s') = ap (λ (x : Outcome). outcome_answer x (result (place s'))) e ∙ outcome_says (place s') in
+    record {
+      lost = λ j. j + r.lost;
+      does = λ j. subst (λ (x : Answer). Does st m (table_of voices rows s j) v (solve b) x (table_of voices rows s' (j + r.lost)) w) (sym a)
+          (Does.solves b (table_of voices rows s' (j + r.lost)) w (f j) (r.solved j));
+    }
+
+-- no fewer nodes are opened than before, and at most as many more as the budget says
+pub opens_within : (st : Behaviour) {m : Meaning} {b : ℕ} {t : ℕ → Table} {v : st.State} {u : ℕ → Table} {w : st.State} → (r : Runs st m b t v u w)
+    → ((t 0).opened ≤ (u (0 + r.lost)).opened) × ((u (0 + r.lost)).opened ≤ (t 0).opened + b)
+opens_within st {m} r =
+    let s = r.solved 0 in
+    let k = goes_kept (goes_any st m s.goes) in
+    (omega (arith, k.opened), omega (arith, k.opened, s.inside))
+
+-- ---- what was found
+
+stopped_not : (p : Place) → out.Stopped ≡ outcome_of p → is_found p ≡ false
+stopped_not fresh e = refl
+stopped_not (going l ls) e = refl
+stopped_not (found p) e = cc
+stopped_not none e = refl
+
+none_not : (p : Place) → out.None ≡ outcome_of p → is_found p ≡ false
+none_not fresh e = refl
+none_not (going l ls) e = refl
+none_not (found p) e = cc
+none_not none e = refl
+
+pub not_found : (o : Outcome) (p : Place) → (o ≡ out.Stopped) ⊎ (o ≡ out.None) → o ≡ outcome_of p → is_found p ≡ false
+not_found o p (inl e) h = stopped_not p (sym e ∙ h)
+not_found o p (inr e) h = none_not p (sym e ∙ h)
+
+pub found_place : (e : End) (w : List ℕ) (ls : List Level) → out.Found ≡ outcome_of (place_of e w ls) → place_of e w ls ≡ found (values w)
+found_place Fresh w [] h = cc
+found_place Found w [] h = refl
+found_place Exhausted w [] h = cc
+found_place Fresh w (l ∷ ls) h = cc
+found_place Found w (l ∷ ls) h = cc
+found_place Exhausted w (l ∷ ls) h = cc
+
+pub reads_by : (st : Behaviour) (m : Meaning) (voices : List ℕ) (rows : List RowData) (s : Search) (v : st.State) (sets buffer after : List ℕ) → place s ≡ found (values sets)
+    → after ≡ values sets ++ drop (length sets) buffer → ((j : ℕ) → judged m (table_of voices rows s j) (read buffer) ≡ Judgement.passes)
+    → Done st m (table_of voices rows s) v (read buffer) (Answer.wrote (length sets) after) (table_of voices rows s) v
+reads_by st m voices rows s v sets buffer after e f g =
+    let n : length (values sets) ≡ length sets = length-map sets least in
+    let a : Answer.wrote (length (values sets)) (values sets ++ drop (length (values sets)) buffer) ≡ Answer.wrote (length sets) after =
+    ap (λ (k : ℕ). Answer.wrote k (values sets ++ drop k buffer)) n ∙ ap (λ (y : List ℕ). Answer.wrote (length sets) y) (sym f) in
+    record {
+      lost = λ j. j;
+      does = λ j. subst (λ (x : Answer). Does st m (table_of voices rows s j) v (read buffer) x (table_of voices rows s j) v) a (Does.reads buffer (values sets) (g j) e);
+    }
+
+-- ---- from slices to fields
+
+pub runs_moved : (st : Behaviour) (m : Meaning) (voices voices' : List ℕ) (rows rows' : List RowData) (s s' : Search) (v w : st.State) (b : ℕ) → voices' ≡ voices → rows' ≡ rows
+    → Runs st m b (table_of voices' rows' s) v (table_of voices' rows' s') w → Runs st m b (table_of voices rows s) v (table_of voices rows s') w
+runs_moved st m voices voices' rows rows' s s' v w b e f r =
+    subst (λ (x : List RowData). Runs st m b (table_of voices x s) v (table_of voices x s') w) f
+    (subst (λ (x : List ℕ). Runs st m b (table_of x rows' s) v (table_of x rows' s') w) e r)

@@ -1,0 +1,11 @@
+pub mod Tests
+pub mod Openings
+pub mod Leveled
+pub mod Backing
+pub mod Searching
+pub mod Stacked
+pub mod Filled
+pub mod Calling
+pub mod Judging
+pub mod Posting
+pub mod Readying

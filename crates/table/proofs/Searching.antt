@@ -1,0 +1,72 @@
+-- One node, and runs of nodes one after the other.
+use Rattle.std.proofs.Common.{◌≡◌, ℕ, ◌+◌, ◌≤◌, true, false, ◌⊎◌, List, [], ◌∷◌, sym, subst, arith}
+use Rattle.rows.specs.Rows.{RowData, Meaning}
+use Rattle.stores.specs.Behaviours.{Behaviour}
+use Rattle.search.specs.Search.{Level, Place, Opens, Steps, taken}
+use Rattle.search.specs.Calls.{Table, over, Goes}
+use Rattle.table.specs.declared.engine.level.End.{End}
+use Rattle.table.specs.declared.engine.level.End.TheVariants.{Fresh, Found, Exhausted}
+use Rattle.table.specs.Levels.{next_sets, tried}
+use Rattle.table.specs.Places.{place_of}
+use Rattle.table.specs.Searches.{Ran, Runs}
+use Rattle.table.proofs.Openings.{Opened}
+
+-- ---- the node that is opened next
+
+-- one node is opened, the root or the next child of the newest level; n levels are exhausted
+pub record Advanced (st : Behaviour) (m : Meaning) (voices : List ℕ) (rows : List RowData) (p : Place) (v : st.State) (q : Place) (w : st.State) (n : ℕ) : Type 0 where
+  pub lost : ℕ
+  pub steps : Steps st m voices rows p v q w n lost
+
+module _ (st : Behaviour) where
+  pub next_step : (m : Meaning) (voices : List ℕ) (rows : List RowData) (s : List ℕ) (ls : List Level) (e : End) (y : List ℕ) (v x : st.State) (q : Place) (i : ℕ)
+      → over (place_of e y ls) ≡ false → s ≡ next_sets voices ls → Opened st m rows s (tried ls) v q x i → Advanced st m voices rows (place_of e y ls) v q x i
+  next_step m voices rows s [] Fresh y v x q i h f o =
+      record { lost = o.lost; steps = Steps.first v x q i o.lost (subst (λ t. Opens st m rows t [] v q x i o.lost) f o.opens) }
+  next_step m voices rows s [] Found y v x q i h f o = cc
+  next_step m voices rows s [] Exhausted y v x q i h f o = cc
+  next_step m voices rows s (l ∷ ls) e y v x q i h f o =
+      record { lost = o.lost; steps = Steps.again l ls v x q i o.lost (subst (λ t. Opens st m rows t (taken l ∷ ls) v q x i o.lost) f o.opens) }
+
+  -- ---- runs
+
+  abbrev table : List ℕ → List RowData → Place → ℕ → ℕ → ℕ → Table
+  table voices rows p o e lost = record { voices = voices; rows = rows; place = p; opened = o; exhausted = e; lost = lost }
+
+  pub ran_one : (m : Meaning) (voices : List ℕ) (rows : List RowData) (p q : Place) (o e o' e' : ℕ) (v w : st.State) (n : ℕ) → o' ≡ o + 1 → e' ≡ e + n → Advanced st m voices rows p v q w n
+      → Ran st m 1 (λ j. record { voices = voices; rows = rows; place = p; opened = o; exhausted = e; lost = j }) v
+      (λ j. record { voices = voices; rows = rows; place = q; opened = o'; exhausted = e'; lost = j }) w
+  ran_one m voices rows p q o e o' e' v w n c d a =
+      subst (λ (x : ℕ). Ran st m 1 (λ j. table voices rows p o e j) v (λ j. table voices rows q x e' j) w) (sym c)
+      (subst (λ (x : ℕ). Ran st m 1 (λ j. table voices rows p o e j) v (λ j. table voices rows q (o + 1) x j) w) (sym d)
+      (record {
+        lost = a.lost;
+        goes = λ j. Goes.more 0 (table voices rows p o e j) (table voices rows q (o + 1) (e + n) (j + a.lost)) v w w q n a.lost a.steps
+            (Goes.stay (table voices rows q (o + 1) (e + n) (j + a.lost)) w);
+      }))
+
+  recount : {m : Meaning} {b c : ℕ} {t : Table} {v : st.State} {u : Table} {w : st.State} → b ≡ c → Goes st m b t v u w → Goes st m c t v u w
+  recount {m} {b} {c} {t} {v} {u} {w} e g = subst (λ (n : ℕ). Goes st m n t v u w) e g
+
+  goes_then : {m : Meaning} {b c : ℕ} {t : Table} {v : st.State} {u : Table} {w : st.State} {x : Table} {y : st.State} → Goes st m b t v u w → Goes st m c u w x y → Goes st m (b + c) t v x y
+  goes_then (Goes.stay t v) h = recount (omega arith) h
+  goes_then {c = c} {x = x} {y = y} (Goes.more b t u v w z p n k S G) h = recount (omega arith) (Goes.more (b + c) t x v w y p n k S (goes_then G h))
+
+  pub ran_none : (m : Meaning) (t : ℕ → Table) (v : st.State) (n : ℕ) → n ≡ 0 → Ran st m n t v t v
+  ran_none m t v n e = record {
+    lost = 0;
+    goes = λ j. recount (sym e) (subst (λ (i : ℕ). Goes st m 0 (t j) v (t i) v) (omega arith) (Goes.stay (t j) v));
+  }
+
+  pub ran_then : (m : Meaning) (b c d : ℕ) (t : ℕ → Table) (v : st.State) (u : ℕ → Table) (w : st.State) (x : ℕ → Table) (y : st.State) → d ≡ b + c
+      → Ran st m b t v u w → Ran st m c u w x y → Ran st m d t v x y
+  ran_then m b c d t v u w x y e r q = record {
+    lost = r.lost + q.lost;
+    goes = λ j.
+        let k : (j + r.lost) + q.lost ≡ j + (r.lost + q.lost) = omega arith in
+        recount (sym e) (subst (λ (i : ℕ). Goes st m (b + c) (t j) v (x i) y) k (goes_then (r.goes j) (q.goes (j + r.lost))));
+  }
+
+  pub runs_by : (m : Meaning) (budget count : ℕ) (t : ℕ → Table) (v : st.State) (u : ℕ → Table) (w : st.State) → count ≤ budget → Ran st m count t v u w
+      → ((j : ℕ) → (over (u j).place ≡ true) ⊎ (count ≡ budget)) → Runs st m budget t v u w
+  runs_by m budget count t v u w h r e = record { lost = r.lost; solved = λ j. record { count = count; inside = h; goes = r.goes j; ends = e (j + r.lost) } }

@@ -1,0 +1,9 @@
+pub mod Levels
+pub mod Stacks
+pub mod Nodes
+pub mod Places
+pub mod Outcomes
+pub mod Searches
+pub mod Refusals
+pub mod Lasting
+pub mod Shown

@@ -1,0 +1,18 @@
+-- Where a search stands, as memory holds it.
+use Rattle.std.specs.Prelude.{ℕ, List, [], ◌∷◌}
+use Rattle.sets.specs.Placings.{values}
+use Rattle.search.specs.Search.{Level, Place}
+use Rattle.search.specs.Search.Place.{fresh, going, found, none}
+use Rattle.table.specs.declared.engine.level.End.{End}
+use Rattle.table.specs.declared.engine.level.End.TheVariants.{Fresh, Found, Exhausted}
+
+-- with no level; what was found are the values of the sets s
+abbrev pub ended : End → List ℕ → Place
+ended Fresh s = fresh
+ended Found s = found (values s)
+ended Exhausted s = none
+
+-- with these levels
+abbrev pub place_of : End → List ℕ → List Level → Place
+place_of e s [] = ended e s
+place_of e s (l ∷ ls) = going l ls

@@ -1,0 +1,56 @@
+-- What the state of a search says.
+use Rattle.std.specs.Prelude.{◌≡◌, ℕ, ◌+◌, List, [], vec_items, vec_len}
+use Rattle.rows.specs.Rows.{RowData, Meaning}
+use Rattle.stores.specs.Behaviours.{Behaviour}
+use Rattle.search.specs.Search.{Level, Place}
+use Rattle.search.specs.Search.Place.{fresh, going, found, none}
+use Rattle.search.specs.Calls.{Table, Goes, Solved}
+use Rattle.table.specs.Places.{place_of}
+use Rattle.table.specs.Stacks.{listed}
+use Rattle.table.specs.declared.engine.state.Search.{Search}
+use Rattle.table.specs.declared.engine.level.End.TheVariants.{Fresh}
+use Rattle.table.specs.declared.outcome.Outcome.{Outcome}
+use Rattle.table.specs.declared.outcome.Outcome.TheVariants.{Stopped, Found, None}
+
+-- how many voices it has, and the sets of the node that was opened last
+abbrev pub voice_count : Search → ℕ
+voice_count s = vec_len s.sets
+
+abbrev pub node_sets : Search → List ℕ
+node_sets s = vec_items s.sets
+
+-- its levels, newest first, and where it stands
+abbrev pub levels_of : Search → List Level
+levels_of s = listed s.levels
+
+abbrev pub place : Search → Place
+place s = place_of s.end (vec_items s.sets) (levels_of s)
+
+-- the table with these voices and rows that it searches, where so many keys were lost
+abbrev pub table_of : List ℕ → List RowData → Search → ℕ → Table
+table_of voices rows s lost = record { voices = voices; rows = rows; place = place s; opened = s.opened; exhausted = s.exhausted; lost = lost }
+
+-- a search with n voices that has not begun
+pub record Begun (n : ℕ) (s : Search) : Type 0 where
+  pub voices : voice_count s ≡ n
+  pub level_none : levels_of s ≡ []
+  pub fresh_end : s.end ≡ Fresh
+  pub none_opened : s.opened ≡ 0
+  pub none_exhausted : s.exhausted ≡ 0
+
+-- what it has come to
+abbrev pub outcome_of : Place → Outcome
+outcome_of fresh = Stopped
+outcome_of (going l ls) = Stopped
+outcome_of (found p) = Found
+outcome_of none = None
+
+-- n nodes are opened, whatever was lost before
+pub record Ran (b : Behaviour) (m : Meaning) (n : ℕ) (t : ℕ → Table) (s : b.State) (u : ℕ → Table) (r : b.State) : Type 0 where
+  pub lost : ℕ
+  pub goes : (j : ℕ) → Goes b m n (t j) s (u (j + lost)) r
+
+-- nodes are opened with this budget, whatever was lost before
+pub record Runs (b : Behaviour) (m : Meaning) (budget : ℕ) (t : ℕ → Table) (s : b.State) (u : ℕ → Table) (r : b.State) : Type 0 where
+  pub lost : ℕ
+  pub solved : (j : ℕ) → Solved b m budget (t j) s (u (j + lost)) r
