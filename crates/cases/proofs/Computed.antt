@@ -14,14 +14,14 @@ use Rattle.stores.specs.Behaviours.{Behaviour, Decided}
 use Rattle.stores.specs.Bare as stores
 use Rattle.stores.specs.ShelfLaws.{shelf}
 use Rattle.stores.proofs.Deciding.{bare_decided, shelf_decided}
-use Rattle.search.specs.Histories.{calls_of}
+use Rattle.search.specs.Histories.{calls_in}
 use Rattle.search.proofs.OutcomeFacts.{Played, replay}
 use Rattle.cases.specs.Tables.{CaseStore, differing}
 use Rattle.cases.specs.Tables.CaseStore.{shelf_of, bare}
-use Rattle.cases.specs.SearchCases.{SearchCase, Leads, LeadsOver, LeadsThere}
-use Rattle.cases.specs.Searches.{searches, SearchesStand}
-use Rattle.cases.specs.Refusals.{Case, Comes, refusals, RefusalsStand, limits, LimitsReached}
-use Rattle.cases.specs.Refusals.Case.{judgement_of, bytes_of, length_of}
+use Rattle.cases.specs.SearchCases.{SearchCase, SearchHolds, SearchHoldsOver, SearchCaseHolds}
+use Rattle.cases.specs.Searches.{searches, SearchesHold}
+use Rattle.cases.specs.Refusals.{CallCase, CallHolds, refusals, RefusalsHold, limits, LimitsReached}
+use Rattle.cases.specs.Refusals.CallCase.{judgement_of, bytes_of, length_of}
 use Rattle.cases.proofs.Same.{same_list, same_list_is, same_judgement, same_judgement_is, same_answer, answers_of, same_answers_is, same_table, same_table_is}
 use Rattle.cases.proofs.Playing.{formed, replay_calls, led}
 
@@ -34,49 +34,49 @@ agrees c p held = same_list same_answer (answers_of p.calls) (answers_of c.calls
 module _ (store : Behaviour) (d : Decided store) (g : store.State) where
   -- what comes of them
   abbrev played : SearchCase → Played store.State
-  played c = replay store d c.bank g (calls_of c.calls)
+  played c = replay store d c.bank g (calls_in c.calls)
 
-  abbrev leads_by : SearchCase → Bool
-  leads_by c = list_all formed (calls_of c.calls) && agrees c (played c) (store.view (played c).state).held
+  abbrev reached_by : SearchCase → Bool
+  reached_by c = list_all formed (calls_in c.calls) && agrees c (played c) (store.view (played c).state).held
 
-  leads_by_so : (c : SearchCase) → leads_by c ≡ true → Leads store g c
-  leads_by_so c e =
+  holds_by_so : (c : SearchCase) → reached_by c ≡ true → SearchHolds store g c
+  holds_by_so c e =
       let p : Played store.State = played c in
       let held = (store.view p.state).held in
-      let f = and_parts (list_all formed (calls_of c.calls)) (agrees c p held) e in
+      let f = and_parts (list_all formed (calls_in c.calls)) (agrees c p held) e in
       let a = and_parts (same_list same_answer (answers_of p.calls) (answers_of c.calls)) (same_table p.table c.table && same_list same held c.keys) f.1 in
       let t = and_parts (same_table p.table c.table) (same_list same held c.keys) a.1 in
-      led store d g c f.0 (same_answers_is p.calls c.calls (replay_calls store d c.bank g (calls_of c.calls)) a.0) (same_table_is p.table c.table t.0) (same_list_is same same_is held c.keys t.1)
+      led store d g c f.0 (same_answers_is p.calls c.calls (replay_calls store d c.bank g (calls_in c.calls)) a.0) (same_table_is p.table c.table t.0) (same_list_is same same_is held c.keys t.1)
 
-abbrev leads_over : CaseStore → SearchCase → Bool
-leads_over (shelf_of words) c = leads_by shelf shelf_decided (record { held = []; room = words }) c
-leads_over bare c = leads_by stores.bare bare_decided tt c
+abbrev holds_over : CaseStore → SearchCase → Bool
+holds_over (shelf_of words) c = reached_by shelf shelf_decided (record { held = []; room = words }) c
+holds_over bare c = reached_by stores.bare bare_decided tt c
 
-leads_over_so : (s : CaseStore) (c : SearchCase) → leads_over s c ≡ true → LeadsOver s c
-leads_over_so (shelf_of words) c e = leads_by_so shelf shelf_decided (record { held = []; room = words }) c e
-leads_over_so bare c e = leads_by_so stores.bare bare_decided tt c e
+holds_over_so : (s : CaseStore) (c : SearchCase) → holds_over s c ≡ true → SearchHoldsOver s c
+holds_over_so (shelf_of words) c e = holds_by_so shelf shelf_decided (record { held = []; room = words }) c e
+holds_over_so bare c e = holds_by_so stores.bare bare_decided tt c e
 
 abbrev leads : SearchCase → Bool
-leads c = leads_over c.store c
+leads c = holds_over c.store c
 
-leads_so : (c : SearchCase) → leads c ≡ true → LeadsThere c
-leads_so c e = leads_over_so c.store c e
+holds_so : (c : SearchCase) → leads c ≡ true → SearchCaseHolds c
+holds_so c e = holds_over_so c.store c e
 
 all_lead : list_all leads searches ≡ true
 unfolding ones count_trailing_zeros mask sift cut
 all_lead = refl
 
-pub searches_stand : SearchesStand
-searches_stand = all_by leads LeadsThere leads_so searches all_lead
+pub searches_hold : SearchesHold
+searches_hold = all_by leads SearchCaseHolds holds_so searches all_lead
 
 -- ---- refusals
 
-abbrev comes : Case → Bool
+abbrev comes : CallCase → Bool
 comes (judgement_of t c judgement) = same_judgement (judged differing t c) judgement
 comes (bytes_of rows bytes) = eqb (total_bytes rows) bytes
 comes (length_of bs bytes) = eqb (length bs) bytes
 
-comes_so : (c : Case) → comes c ≡ true → Comes c
+comes_so : (c : CallCase) → comes c ≡ true → CallHolds c
 comes_so (judgement_of t c judgement) e = same_judgement_is (judged differing t c) judgement e
 comes_so (bytes_of rows bytes) e = eqb-true (total_bytes rows) bytes e
 comes_so (length_of bs bytes) e = eqb-true (length bs) bytes e
@@ -84,11 +84,11 @@ comes_so (length_of bs bytes) e = eqb-true (length bs) bytes e
 all_come : list_all comes refusals ≡ true
 all_come = refl
 
-pub refusals_stand : RefusalsStand
-refusals_stand = all_by comes Comes comes_so refusals all_come
+pub refusals_hold : RefusalsHold
+refusals_hold = all_by comes CallHolds comes_so refusals all_come
 
 limits_lead : list_all leads limits ≡ true
 limits_lead = refl
 
 pub limits_reached : LimitsReached
-limits_reached = record { histories = all_by leads LeadsThere leads_so limits limits_lead; bytes_counted = refl }
+limits_reached = record { histories = all_by leads SearchCaseHolds holds_so limits limits_lead; bytes_counted = refl }

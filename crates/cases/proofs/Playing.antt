@@ -7,10 +7,10 @@ use Rattle.rows.specs.Bytes.{Bytes}
 use Rattle.stores.specs.Behaviours.{Behaviour, Decided}
 use Rattle.search.specs.Calls.{Table, Call, Answer, Formed, judged, Does}
 use Rattle.search.specs.Calls.Call.{declare, post, solve, read, wipe}
-use Rattle.search.specs.Histories.{History, calls_of}
-use Rattle.search.specs.CallOutcomes.{Outcome}
+use Rattle.search.specs.Histories.{History, calls_in}
+use Rattle.search.specs.CallOutcomes.{CallOutcome}
 use Rattle.search.proofs.OutcomeFacts.{comes, does_is, one_outcome, Played, play, replay}
-use Rattle.cases.specs.SearchCases.{SearchCase, Leads}
+use Rattle.cases.specs.SearchCases.{SearchCase, SearchHolds}
 
 -- ---- what a caller can hand over, by computation
 
@@ -42,7 +42,7 @@ module _ (store : Behaviour) (d : Decided store) (m : Meaning) (g : store.State)
 
   does_so : (t : Table) (v : store.State) (c : Call) (r : Answer × Table × store.State) → comes store d m t v c (judged m t c) ≡ r → Does store m t v c r.0 r.1 r.2
   does_so t v c r e =
-      let o : Outcome store m t v c = (one_outcome store d m t v c).0 in
+      let o : CallOutcome store m t v c = (one_outcome store d m t v c).0 in
       subst (λ (x : Answer × Table × store.State). Does store m t v c x.0 x.1 x.2) (sym (does_is store d m o.does) ∙ e) o.does
 
   play_real : (c : Call) (p : Played store.State) → Formed c → Real p → Real (play store d m g c p)
@@ -56,18 +56,18 @@ module _ (store : Behaviour) (d : Decided store) (m : Meaning) (g : store.State)
       let fs = and_parts (formed c) (list_all formed cs) f in play_real c (replay store d m g cs) (formed_so c fs.0) (replay_real cs fs.1)
 
   -- the calls of a history, played, are these calls
-  pub replay_calls : (cs : List Call) → calls_of (replay store d m g cs).calls ≡ cs
+  pub replay_calls : (cs : List Call) → calls_in (replay store d m g cs).calls ≡ cs
   replay_calls [] = refl
   replay_calls (c ∷ cs) = ap (λ (x : List Call). c ∷ x) (replay_calls cs)
 
 -- a history whose calls, played, have these answers and come to this table and these keys
-pub led : (store : Behaviour) (d : Decided store) (g : store.State) (c : SearchCase) → list_all formed (calls_of c.calls) ≡ true
-    → (replay store d c.bank g (calls_of c.calls)).calls ≡ c.calls → (replay store d c.bank g (calls_of c.calls)).table ≡ c.table
-    → (store.view (replay store d c.bank g (calls_of c.calls)).state).held ≡ c.keys → Leads store g c
+pub led : (store : Behaviour) (d : Decided store) (g : store.State) (c : SearchCase) → list_all formed (calls_in c.calls) ≡ true
+    → (replay store d c.bank g (calls_in c.calls)).calls ≡ c.calls → (replay store d c.bank g (calls_in c.calls)).table ≡ c.table
+    → (store.view (replay store d c.bank g (calls_in c.calls)).state).held ≡ c.keys → SearchHolds store g c
 led store d g c f a b k =
-    let p = replay store d c.bank g (calls_of c.calls) in
+    let p = replay store d c.bank g (calls_in c.calls) in
     record {
       state = p.state;
-      history = subst₂ (λ (x : List (Call × Answer)) (y : Table). History store c.bank g x y p.state) a b (replay_real store d c.bank g (calls_of c.calls) f);
+      history = subst₂ (λ (x : List (Call × Answer)) (y : Table). History store c.bank g x y p.state) a b (replay_real store d c.bank g (calls_in c.calls) f);
       holds = k;
     }

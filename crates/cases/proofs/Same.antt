@@ -12,7 +12,7 @@ use Rattle.search.specs.Search.Place.{fresh, going}
 use Rattle.search.specs.Calls.{Table, Call, Answer, Judgement}
 use Rattle.search.specs.Calls.Answer.{done, refused, found, none, stopped, wrote}
 use Rattle.search.specs.Calls.Judgement.{passes, declined}
-use Rattle.search.specs.Histories.{calls_of}
+use Rattle.search.specs.Histories.{calls_in}
 
 -- ---- lists
 
@@ -63,13 +63,13 @@ abbrev pub answers_of : List (Call × Answer) → List Answer
 answers_of h = map (λ x. x.1) h
 
 -- answers to the same calls
-pub same_answers_is : (h k : List (Call × Answer)) → calls_of h ≡ calls_of k → same_list same_answer (answers_of h) (answers_of k) ≡ true → h ≡ k
+pub same_answers_is : (h k : List (Call × Answer)) → calls_in h ≡ calls_in k → same_list same_answer (answers_of h) (answers_of k) ≡ true → h ≡ k
 same_answers_is h k c e =
     sym (paired h)
     ∙ ap₂ {C = List (Call × Answer)} zip c (same_list_is same_answer same_answer_is (answers_of h) (answers_of k) e)
     ∙ paired k
   where
-    paired : (h : List (Call × Answer)) → zip (calls_of h) (answers_of h) ≡ h
+    paired : (h : List (Call × Answer)) → zip (calls_in h) (answers_of h) ≡ h
     paired [] = refl
     paired ((c, a) ∷ h) = ap (λ (k : List (Call × Answer)). (c, a) ∷ k) (paired h)
 

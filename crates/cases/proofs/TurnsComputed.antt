@@ -13,8 +13,8 @@ use Rattle.sets.specs.Sets.{mask, sift}
 use Rattle.sets.specs.Placings.{same}
 use Rattle.sets.proofs.Lists.{same_is}
 use Rattle.rows.specs.Shared.{cut}
-use Rattle.cases.specs.Turns.{Case, Comes, cases, CasesStand}
-use Rattle.cases.specs.Turns.Case.{turn_of, trace_of, verdict_of}
+use Rattle.cases.specs.Turns.{TurnCase, TurnHolds, cases, TurnsHold}
+use Rattle.cases.specs.Turns.TurnCase.{turn_of, trace_of, verdict_of}
 
 -- ---- a list of which each element passes a test
 
@@ -48,12 +48,12 @@ same_verdict_is x y e = absurd (both_ways false refl e)
 
 -- ---- the cases
 
-abbrev comes : Case → Bool
+abbrev comes : TurnCase → Bool
 comes (turn_of m r sets after) = same (m.turn r sets) after
 comes (trace_of m r sets trace) = same_trace (m.trace r sets) trace
 comes (verdict_of m r voices verdict) = same_verdict (m.accepts r voices) verdict
 
-comes_so : (c : Case) → comes c ≡ true → Comes c
+comes_so : (c : TurnCase) → comes c ≡ true → TurnHolds c
 comes_so (turn_of m r sets after) e = same_is (m.turn r sets) after e
 comes_so (trace_of m r sets trace) e = same_trace_is (m.trace r sets) trace e
 comes_so (verdict_of m r voices verdict) e = same_verdict_is (m.accepts r voices) verdict e
@@ -62,5 +62,5 @@ all_come : list_all comes cases ≡ true
 unfolding ones count_trailing_zeros count_leading_zeros mask sift cut
 all_come = refl
 
-pub cases_stand : CasesStand
-cases_stand = all_by comes Comes comes_so cases all_come
+pub turns_hold : TurnsHold
+turns_hold = all_by comes TurnHolds comes_so cases all_come

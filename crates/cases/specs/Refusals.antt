@@ -9,21 +9,21 @@ use Rattle.search.specs.Calls.Call.{declare, post, solve, read, wipe}
 use Rattle.search.specs.Calls.Answer.{done, refused}
 use Rattle.search.specs.Calls.Judgement.{passes, declined}
 use Rattle.cases.specs.Tables.{differing, large, first_differ, table}
-use Rattle.cases.specs.SearchCases.{SearchCase, calls_over, LeadsThere}
+use Rattle.cases.specs.SearchCases.{SearchCase, calls_over, SearchCaseHolds}
 
 -- ---- what a case says
 
 -- what becomes of this call over this table of the bank A; how many bytes these rows have together; how long these bytes are
-pub data Case : Type 0 where
-  judgement_of : Table → Call → Judgement → Case
-  bytes_of : List RowData → ℕ → Case
-  length_of : List ℕ → ℕ → Case
+pub data CallCase : Type 0 where
+  judgement_of : Table → Call → Judgement → CallCase
+  bytes_of : List RowData → ℕ → CallCase
+  length_of : List ℕ → ℕ → CallCase
 
 -- it comes to what is written there
-abbrev pub Comes : Case → Type 0
-Comes (judgement_of t c judgement) = judged differing t c ≡ judgement
-Comes (bytes_of rows bytes) = total_bytes rows ≡ bytes
-Comes (length_of bs bytes) = length bs ≡ bytes
+abbrev pub CallHolds : CallCase → Type 0
+CallHolds (judgement_of t c judgement) = judged differing t c ≡ judgement
+CallHolds (bytes_of rows bytes) = total_bytes rows ≡ bytes
+CallHolds (length_of bs bytes) = length bs ≡ bytes
 
 -- ---- tables
 
@@ -78,7 +78,7 @@ full_table = begun (replicate 32 6) (long_rows 3 8 ++ (decode differing (first_d
 
 -- ---- the cases
 
-abbrev pub refusals : List Case
+abbrev pub refusals : List CallCase
 refusals =
     -- Declare: the least and the greatest set that is not empty, and the empty set
     judgement_of empty (declare 1) passes
@@ -164,8 +164,8 @@ refusals =
     ∷ []
 
 -- Each case comes to what is written there.
-abbrev pub RefusalsStand : Type 0
-RefusalsStand = All Comes refusals
+abbrev pub RefusalsHold : Type 0
+RefusalsHold = All CallHolds refusals
 
 -- histories that reach the limits, and those with one call more
 abbrev pub limits : List SearchCase
@@ -183,5 +183,5 @@ limits =
 
 -- The limits can be reached, and not passed.
 pub record LimitsReached : Type 0 where
-  pub histories : All LeadsThere limits
+  pub histories : All SearchCaseHolds limits
   pub bytes_counted : total_bytes full_table.rows ≡ 8192

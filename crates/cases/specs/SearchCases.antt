@@ -22,16 +22,16 @@ abbrev pub calls_over : CaseStore → List (Call × Answer) → Table → List (
 calls_over store calls table keys = record { store = store; bank = differing; calls = calls; table = table; keys = keys }
 
 -- over a store with this behaviour that Make got in the state g, the calls, so answered, lead to this table, and the store then holds these keys
-pub record Leads (b : Behaviour) (g : b.State) (c : SearchCase) : Type 0 where
+pub record SearchHolds (b : Behaviour) (g : b.State) (c : SearchCase) : Type 0 where
   pub state : b.State
   pub history : History b c.bank g c.calls c.table state
   pub holds : (b.view state).held ≡ c.keys
 
 -- a shelf that may use so many words and holds no key, or the bare store
-abbrev pub LeadsOver : CaseStore → SearchCase → Type 0
-LeadsOver (shelf_of words) c = Leads shelf (record { held = []; room = words }) c
-LeadsOver bare c = Leads stores.bare tt c
+abbrev pub SearchHoldsOver : CaseStore → SearchCase → Type 0
+SearchHoldsOver (shelf_of words) c = SearchHolds shelf (record { held = []; room = words }) c
+SearchHoldsOver bare c = SearchHolds stores.bare tt c
 
 -- so the case comes to what is written there
-abbrev pub LeadsThere : SearchCase → Type 0
-LeadsThere c = LeadsOver c.store c
+abbrev pub SearchCaseHolds : SearchCase → Type 0
+SearchCaseHolds c = SearchHoldsOver c.store c

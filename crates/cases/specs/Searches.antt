@@ -8,7 +8,7 @@ use Rattle.search.specs.Calls.Call.{declare, post, solve, read, wipe}
 use Rattle.search.specs.Calls.Answer.{done, refused, found, none, stopped, wrote}
 use Rattle.cases.specs.Tables.{large, first_differ, differ_2, differ_3, differ_5, table}
 use Rattle.cases.specs.Tables.CaseStore.{shelf_of, bare}
-use Rattle.cases.specs.SearchCases.{SearchCase, calls_over, LeadsThere}
+use Rattle.cases.specs.SearchCases.{SearchCase, calls_over, SearchCaseHolds}
 
 -- ---- three voices {1,2} that differ
 
@@ -96,5 +96,5 @@ searches =
     ∷ []
 
 -- The calls of each case lead to what is written there.
-abbrev pub SearchesStand : Type 0
-SearchesStand = All LeadsThere searches
+abbrev pub SearchesHold : Type 0
+SearchesHold = All SearchCaseHolds searches

@@ -14,16 +14,16 @@ use Rattle.kinds.specs.FourKinds.{four_kinds}
 -- ---- what a case says
 
 -- What is asked of a bank about a row, and what it comes to: the sets that a turn on these sets leaves, the trace on them, the verdict with so many voices.
-pub data Case : Type 0 where
-  turn_of : Meaning → RowData → List ℕ → List ℕ → Case
-  trace_of : Meaning → RowData → List ℕ → Trace → Case
-  verdict_of : Meaning → RowData → ℕ → Verdict → Case
+pub data TurnCase : Type 0 where
+  turn_of : Meaning → RowData → List ℕ → List ℕ → TurnCase
+  trace_of : Meaning → RowData → List ℕ → Trace → TurnCase
+  verdict_of : Meaning → RowData → ℕ → Verdict → TurnCase
 
 -- it comes to what is written there
-abbrev pub Comes : Case → Type 0
-Comes (turn_of m r sets after) = m.turn r sets ≡ after
-Comes (trace_of m r sets trace) = m.trace r sets ≡ trace
-Comes (verdict_of m r voices verdict) = m.accepts r voices ≡ verdict
+abbrev pub TurnHolds : TurnCase → Type 0
+TurnHolds (turn_of m r sets after) = m.turn r sets ≡ after
+TurnHolds (trace_of m r sets trace) = m.trace r sets ≡ trace
+TurnHolds (verdict_of m r voices verdict) = m.accepts r voices ≡ verdict
 
 -- ---- banks of one kind each
 
@@ -113,7 +113,7 @@ of_no_kind = row 0x42 (1 ∷ []) (of 0 (pos 0) ∷ [])
 
 -- ---- the cases
 
-abbrev pub cases : List Case
+abbrev pub cases : List TurnCase
 cases =
     -- all different, a turn: each member in order, at its moment
     turn_of differing differs_3 (2 ∷ 6 ∷ 12 ∷ []) (2 ∷ 4 ∷ 8 ∷ [])
@@ -203,5 +203,5 @@ cases =
     ∷ []
 
 -- Each case comes to what is written there.
-abbrev pub CasesStand : Type 0
-CasesStand = All Comes cases
+abbrev pub TurnsHold : Type 0
+TurnsHold = All TurnHolds cases

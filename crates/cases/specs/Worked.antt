@@ -1,7 +1,7 @@
 -- The worked cases, all in one table: of single turns and traces, and of whole searches.
-use Rattle.cases.specs.Turns.{CasesStand}
-use Rattle.cases.specs.Searches.{SearchesStand}
+use Rattle.cases.specs.Turns.{TurnsHold}
+use Rattle.cases.specs.Searches.{SearchesHold}
 
-pub record WorkedStand : Type 0 where
-  pub turns : CasesStand
-  pub searches : SearchesStand
+pub record WorkedHold : Type 0 where
+  pub turns : TurnsHold
+  pub searches : SearchesHold

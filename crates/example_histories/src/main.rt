@@ -6,8 +6,8 @@ ghost use Rattle.kinds.specs.FourKinds.{four_kinds};
 ghost use Rattle.stores.specs.Bare.{bare};
 ghost use Rattle.stores.specs.Shelves.{room_of};
 ghost use Rattle.stores.specs.ShelfLaws.{shelf};
-ghost use Rattle.histories.specs.Meant.{calls_of, answers_of, standings_of};
-ghost use Rattle.histories.specs.Told.{Played, Agreed};
+ghost use Rattle.histories.specs.CallViews.{calls_of, answers_of, progresses_of};
+ghost use Rattle.histories.specs.Replies.{Played, Agreed};
 
 use kinds::FourKinds;
 use parse::parse_calls;
@@ -32,8 +32,8 @@ fn play_beside_bare(
     count: usize,
     calls: &[Call],
 ) -> Result<(Vec<Reply>, Vec<Reply>), AllocError>
-    ensures over_bare { IfOk result (λ both. Played bare four_kinds tt (calls_of calls.now) (answers_of both.0.items) (standings_of both.0.items)) }
-    ensures over_shelf { IfOk result (λ both. Played shelf four_kinds (record { held = []; room = room_of count }) (calls_of calls.now) (answers_of both.1.items) (standings_of both.1.items)) }
+    ensures over_bare { IfOk result (λ both. Played bare four_kinds tt (calls_of calls.now) (answers_of both.0.items) (progresses_of both.0.items)) }
+    ensures over_shelf { IfOk result (λ both. Played shelf four_kinds (record { held = []; room = room_of count }) (calls_of calls.now) (answers_of both.1.items) (progresses_of both.1.items)) }
     ensures agreed { IfOk result (λ both. Agreed four_kinds (calls_of calls.now) (answers_of both.0.items) four_kinds (calls_of calls.now) (answers_of both.1.items)) }
 {
     let mut words = vec![in heap; 0u64; count]?;

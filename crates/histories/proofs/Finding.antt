@@ -6,7 +6,7 @@ use Rattle.rows.specs.Rows.{RowData, Meaning}
 use Rattle.stores.specs.Behaviours.{Behaviour}
 use Rattle.search.specs.Search.{Place}
 use Rattle.search.specs.Search.Place.{fresh, going, found, none}
-use Rattle.search.specs.Calls.{Table, Answer, Does, result, says}
+use Rattle.search.specs.Calls.{Table, Answer, Does, result, place_answer}
 use Rattle.search.specs.Calls.Call.{solve, read}
 use Rattle.search.specs.Calls.Answer.{wrote}
 use Rattle.search.proofs.HistoryFacts.{not_both}
@@ -16,11 +16,11 @@ use Rattle.table.specs.declared.engine.state.Search.{Search}
 use Rattle.table.specs.Searches.{place, levels_of, table_of, outcome_of}
 use Rattle.table.specs.declared.refusal.Refusal.{Refusal}
 use Rattle.table.specs.Shown.{outcome_answer, read_answer}
-use Rattle.table.specs.Lasting.{Done}
+use Rattle.table.specs.CallLaws.{Done}
 use Rattle.table.proofs.Calling.{found_place}
 use Rattle.table.proofs.Judging.{buffer_fits}
 
-says_found : (x : Place) (p : List ℕ) → says x ≡ Answer.found p → x ≡ found p
+says_found : (x : Place) (p : List ℕ) → place_answer x ≡ Answer.found p → x ≡ found p
 says_found fresh p e = cc
 says_found (going l ls) p e = cc
 says_found (found q) p e = cc

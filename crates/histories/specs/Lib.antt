@@ -1,3 +1,3 @@
-pub mod Meant
+pub mod CallViews
 pub mod Printed
-pub mod Told
+pub mod Replies

@@ -5,7 +5,7 @@ use Rattle.table.specs.Refusals.{refusal_number}
 use Rattle.histories.specs.declared.call.Answer.{Answer}
 use Rattle.histories.specs.declared.call.Answer.TheVariants.{Done, Refused, Found, None, Stopped, Wrote}
 use Rattle.histories.specs.declared.reply.Reply.{Reply}
-use Rattle.histories.specs.declared.reply.Standing.{Standing}
+use Rattle.histories.specs.declared.reply.Progress.{Progress}
 
 -- numbers, a space before each
 abbrev pub spaced : List ℕ → List ℕ
@@ -21,9 +21,9 @@ answer_text Stopped = codes "stopped"
 answer_text (Wrote count bytes) = codes "wrote " ++ (decimal count ++ (codes ":" ++ spaced (vec_items bytes)))
 
 -- as `stopped 20 7`
-abbrev pub standing_text : Standing → List ℕ
-standing_text s = outcome_name s.outcome ++ (codes " " ++ (decimal s.opened ++ (codes " " ++ decimal s.exhausted)))
+abbrev pub progress_text : Progress → List ℕ
+progress_text s = outcome_name s.outcome ++ (codes " " ++ (decimal s.opened ++ (codes " " ++ decimal s.exhausted)))
 
 -- as `refused 13 | stopped 20 7`
 abbrev pub reply_text : Reply → List ℕ
-reply_text r = answer_text r.answer ++ (codes " | " ++ standing_text r.standing)
+reply_text r = answer_text r.answer ++ (codes " | " ++ progress_text r.progress)

@@ -1,8 +1,8 @@
 // One call performed.
 ghost use Rattle.std.specs.Prelude.{◌≡◌, true, false, is_ok, IfOk, OnErr};
 ghost use Rattle.search.specs.Calls.{Call as CallOf};
-ghost use Rattle.table.specs.Shown.{CallDone, CallLasts, done_answer};
-ghost use Rattle.histories.specs.Meant.{call_of, answer_of, wants_memory};
+ghost use Rattle.table.specs.Shown.{CallDone, CallExtends, done_answer};
+ghost use Rattle.histories.specs.CallViews.{call_of, answer_of, wants_memory};
 
 use crate::call::{Answer, Call};
 use table::outcome::Outcome;
@@ -29,7 +29,7 @@ fn perform_solve<B: Bank, S: Store>(
     budget: u64,
 ) -> Result<Answer, AllocError>
     ensures does { IfOk result (λ a. CallDone table.old (CallOf.solve budget) (answer_of a) table.new) }
-    ensures lasts { IfOk result (λ a. CallLasts table.old (CallOf.solve budget) (answer_of a) table.new) }
+    ensures history { IfOk result (λ a. CallExtends table.old (CallOf.solve budget) (answer_of a) table.new) }
     ensures kept { OnErr result (table.new ≡ table.old) }
 {
     let mut values = vec![in heap; 0u8; MOST_VOICES]?;
@@ -52,7 +52,7 @@ fn perform_read<B: Bank, S: Store>(
     bytes: &[u8],
 ) -> Result<Answer, AllocError>
     ensures does { IfOk result (λ a. CallDone table.now (CallOf.read bytes.now) (answer_of a) table.now) }
-    ensures lasts { IfOk result (λ a. CallLasts table.now (CallOf.read bytes.now) (answer_of a) table.now) }
+    ensures history { IfOk result (λ a. CallExtends table.now (CallOf.read bytes.now) (answer_of a) table.now) }
 {
     let mut buffer = bytes.to_vec(heap)?;
     match table.read(&mut buffer) {
@@ -68,7 +68,7 @@ pub fn perform<B: Bank, S: Store>(
     call: &Call,
 ) -> Result<Answer, AllocError>
     ensures does { IfOk result (λ a. CallDone table.old (call_of call.now) (answer_of a) table.new) }
-    ensures lasts { IfOk result (λ a. CallLasts table.old (call_of call.now) (answer_of a) table.new) }
+    ensures history { IfOk result (λ a. CallExtends table.old (call_of call.now) (answer_of a) table.new) }
     ensures kept { OnErr result (table.new ≡ table.old) }
     ensures answers { wants_memory call.now ≡ false → is_ok result ≡ true }
 {

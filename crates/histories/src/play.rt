@@ -1,11 +1,11 @@
 // Histories of calls played.
 ghost use Rattle.std.specs.Prelude.{IfOk};
-ghost use Rattle.histories.specs.Meant.{calls_of, answers_of, standings_of};
-ghost use Rattle.histories.specs.Told.{Played, Agreed};
+ghost use Rattle.histories.specs.CallViews.{calls_of, answers_of, progresses_of};
+ghost use Rattle.histories.specs.Replies.{Played, Agreed};
 
 use crate::call::Call;
 use crate::perform::perform;
-use crate::reply::{Reply, Standing};
+use crate::reply::{Reply, Progress};
 use table::Table;
 use rows::bank::Bank;
 use std::alloc::{AllocError, Global};
@@ -17,7 +17,7 @@ pub fn play<B: Bank, S: Store + Drop>(
     store: S,
     calls: &[Call],
 ) -> Result<Vec<Reply>, AllocError>
-    ensures { IfOk result (λ replies. Played S.Store.behaviour B.Bank.meaning (S.Store.state store) (calls_of calls.now) (answers_of replies.items) (standings_of replies.items)) }
+    ensures { IfOk result (λ replies. Played S.Store.behaviour B.Bank.meaning (S.Store.state store) (calls_of calls.now) (answers_of replies.items) (progresses_of replies.items)) }
 {
     let mut table: Table<B, S> = Table::make(heap, store)?;
     let mut replies = Vec::with_capacity(heap, calls.len())?;
@@ -25,7 +25,7 @@ pub fn play<B: Bank, S: Store + Drop>(
         // the call goes first
         replies.push_reserved(Reply {
             answer: perform(&mut table, heap, call)?,
-            standing: Standing::of(&table),
+            progress: Progress::of(&table),
         });
     }
     Ok(replies)
@@ -39,8 +39,8 @@ pub fn play_both<B: Bank, S: Store + Drop, C: Bank, R: Store + Drop>(
     other_store: R,
     other_calls: &[Call],
 ) -> Result<(Vec<Reply>, Vec<Reply>), AllocError>
-    ensures first { IfOk result (λ both. Played S.Store.behaviour B.Bank.meaning (S.Store.state store) (calls_of calls.now) (answers_of both.0.items) (standings_of both.0.items)) }
-    ensures second { IfOk result (λ both. Played R.Store.behaviour C.Bank.meaning (R.Store.state other_store) (calls_of other_calls.now) (answers_of both.1.items) (standings_of both.1.items)) }
+    ensures first { IfOk result (λ both. Played S.Store.behaviour B.Bank.meaning (S.Store.state store) (calls_of calls.now) (answers_of both.0.items) (progresses_of both.0.items)) }
+    ensures second { IfOk result (λ both. Played R.Store.behaviour C.Bank.meaning (R.Store.state other_store) (calls_of other_calls.now) (answers_of both.1.items) (progresses_of both.1.items)) }
     ensures agreed { IfOk result (λ both. Agreed B.Bank.meaning (calls_of calls.now) (answers_of both.0.items) C.Bank.meaning (calls_of other_calls.now) (answers_of both.1.items)) }
 {
     let replies = play::<B, S>(heap, store, calls)?;

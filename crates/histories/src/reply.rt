@@ -1,8 +1,8 @@
 // What a played call hands back: its answer, and how the search stands then. A reply is printed as a line of text.
 ghost use Rattle.std.specs.Prelude.{◌≡◌, Some};
 ghost use Rattle.table.specs.Shown.{model};
-ghost use Rattle.histories.specs.Meant.{standing_of};
-ghost use Rattle.histories.specs.Printed.{standing_text, reply_text};
+ghost use Rattle.histories.specs.CallViews.{progress_of};
+ghost use Rattle.histories.specs.Printed.{progress_text, reply_text};
 
 use crate::call::Answer;
 use table::outcome::Outcome;
@@ -13,18 +13,18 @@ use stores::store::Store;
 
 // What a table's search has come to, how many nodes it has opened, and how many were exhausted since the store was emptied.
 #[derive(Clone, Copy, Debug, PartialEq, Eq)]
-pub struct Standing {
+pub struct Progress {
     pub outcome: Outcome,
     pub opened: u64,
     pub exhausted: u64,
 }
 
-impl Standing {
+impl Progress {
     // How the table's search stands.
-    pub fn of<B: Bank, S: Store>(table: &Table<B, S>) -> Standing
-        ensures { result ≡ standing_of (model table.now 0) }
+    pub fn of<B: Bank, S: Store>(table: &Table<B, S>) -> Progress
+        ensures { result ≡ progress_of (model table.now 0) }
     {
-        Standing {
+        Progress {
             outcome: table.outcome(),
             opened: table.opened(),
             exhausted: table.exhausted(),
@@ -32,11 +32,11 @@ impl Standing {
     }
 }
 
-impl fmt::Display for Standing {
-    ghost output = { λ standing. Some (standing_text standing) };
+impl fmt::Display for Progress {
+    ghost output = { λ progress. Some (progress_text progress) };
 
     fn fmt<W: fmt::Write>(&self, f: &mut fmt::Formatter<W>) -> fmt::Result {
-        let Standing {
+        let Progress {
             outcome,
             opened,
             exhausted,
@@ -49,13 +49,13 @@ impl fmt::Display for Standing {
 pub struct Reply {
     pub answer: Answer,
     // how the search stands after the call
-    pub standing: Standing,
+    pub progress: Progress,
 }
 
 impl fmt::Display for Reply {
     ghost output = { λ reply. Some (reply_text reply) };
 
     fn fmt<W: fmt::Write>(&self, f: &mut fmt::Formatter<W>) -> fmt::Result {
-        write!(f, "{} | {}", self.answer, self.standing)
+        write!(f, "{} | {}", self.answer, self.progress)
     }
 }

@@ -8,14 +8,14 @@ use Rattle.stores.specs.Behaviours.{Behaviour}
 use Rattle.search.specs.Limits.{most_budget}
 use Rattle.search.specs.Calls.{Table, begun, Answer, Judgement, judged, Does}
 use Rattle.search.specs.Calls.Call.{solve}
-use Rattle.search.specs.Histories.{History, declared, posted}
-use Rattle.search.specs.Results.{Says, Stands}
-use Rattle.search.proofs.OverEvery.{search_stands, solve_keeps_budget, answers_stand, tables_given}
+use Rattle.search.specs.Histories.{History, declared_voices, posted_rows}
+use Rattle.search.specs.Results.{SolveMeans, Invariant}
+use Rattle.search.proofs.OverEvery.{invariant_holds, solve_keeps_budget, answers_hold, tables_given}
 use Rattle.sheets.specs.declared.fault.SheetFault.{SheetFault}
-use Rattle.sheets.specs.Reading.{Outcome, read_sheet, table_after}
-use Rattle.sheets.specs.Reading.Outcome.{accepted, refused}
+use Rattle.sheets.specs.Reading.{SheetReading, read_sheet, table_after}
+use Rattle.sheets.specs.Reading.SheetReading.{accepted, refused}
 use Rattle.sheets.specs.Laws.{loaded_after}
-use Rattle.sheets.specs.Loading.{LoadAnswer, load_answer, outcome_answer, LoadHistory}
+use Rattle.sheets.specs.Loading.{LoadAnswer, load_answer, reading_answer, LoadHistory}
 use Rattle.sheets.specs.Loading.LoadAnswer.{loaded, declined}
 use Rattle.job.specs.Texts.{table_text, report_text}
 use Rattle.job.specs.Planned.{most_sheet, JobHistory, Right, Planned}
@@ -41,16 +41,16 @@ same_report (declined number place layer) t u e = refl
 
 -- ---- what is shown of a job
 
-record Shown (b : Behaviour) (m : Meaning) (g : b.State) (sheet : List ℕ) (o : Outcome) (text : List ℕ) : Type 0 where
+record Shown (b : Behaviour) (m : Meaning) (g : b.State) (sheet : List ℕ) (o : SheetReading) (text : List ℕ) : Type 0 where
   table : Table
   state : b.State
   history : JobHistory b m g sheet o table state
-  stands : Stands m table (b.view state)
-  reported : text ≡ report_text (outcome_answer o) table
+  invariant : Invariant m table (b.view state)
+  reported : text ≡ report_text (reading_answer o) table
   right : Right m o table
 
 planned : (b : Behaviour) (m : Meaning) (g : b.State) (sheet text : List ℕ) → Shown b m g sheet (read_sheet m sheet) text → Planned b m g sheet text
-planned b m g sheet text p = record { table = p.table; state = p.state; history = p.history; stands = p.stands; reported = p.reported; right = p.right }
+planned b m g sheet text p = record { table = p.table; state = p.state; history = p.history; invariant = p.invariant; reported = p.reported; right = p.right }
 
 module _ (b : Behaviour) (m : Meaning) (L : Laws m) (g : b.State) (sheet text : List ℕ) where
   -- the Solve of an accepted sheet
@@ -63,36 +63,36 @@ module _ (b : Behaviour) (m : Meaning) (L : Laws m) (g : b.State) (sheet text : 
       let k = (solve_keeps_budget b m t v most_budget a u w j D).0 in
       let all : History b m g ((solve most_budget, a) ∷ calls) u w = History.then calls t u v w (solve most_budget) a H tt D in
       let given = tables_given b m g calls t v H in
-      let says_so : Says m (declared calls) (posted m calls) a = answers_stand b m L g [] calls most_budget a u w all in
+      let says_so : SolveMeans m (declared_voices calls) (posted_rows m calls) a = answers_hold b m L g [] calls most_budget a u w all in
       record {
         table = u;
         state = w;
         history = subst (λ (x : Answer). History b m g ((solve most_budget, x) ∷ calls) u w) k.answer all;
-        stands = search_stands b m L g ((solve most_budget, a) ∷ calls) u w all;
+        invariant = invariant_holds b m L g ((solve most_budget, a) ∷ calls) u w all;
         reported = r;
-        right = subst (λ (x : Answer). Says m voices rows x) k.answer
-            (subst₂ (λ (vs : List ℕ) (rs : List RowData). Says m vs rs a) (sym given.0 ∙ ap (λ (x : Table). x.voices) e) (sym given.1 ∙ ap (λ (x : Table). x.rows) e) says_so);
+        right = subst (λ (x : Answer). SolveMeans m voices rows x) k.answer
+            (subst₂ (λ (vs : List ℕ) (rs : List RowData). SolveMeans m vs rs a) (sym given.0 ∙ ap (λ (x : Table). x.voices) e) (sym given.1 ∙ ap (λ (x : Table). x.rows) e) says_so);
       }
 
-  pub solved_job : (o : Outcome) (r : Result (Unit {0}) SheetFault) (t u : Table) (v w : b.State) (a : Answer) → is_ok r ≡ true
-      → load_answer r ≡ outcome_answer o → o ≡ read_sheet m sheet → t ≡ table_after o → LoadHistory b m g [] sheet o t v → Does b m t v (solve most_budget) a u w
+  pub solved_job : (o : SheetReading) (r : Result (Unit {0}) SheetFault) (t u : Table) (v w : b.State) (a : Answer) → is_ok r ≡ true
+      → load_answer r ≡ reading_answer o → o ≡ read_sheet m sheet → t ≡ table_after o → LoadHistory b m g [] sheet o t v → Does b m t v (solve most_budget) a u w
       → text ≡ report_text (load_answer r) u → Planned b m g sheet text
   solved_job o (Err f) t u v w a k e f' l H D s = absurd (both_ways false refl k)
   solved_job (refused number place layer) (Ok y) t u v w a k e f l H D s = absurd (subst IsLoaded e tt)
   solved_job (accepted voices rows) (Ok y) t u v w a k e f l H D s =
-      planned b m g sheet text (subst (λ (o : Outcome). Shown b m g sheet o text) f (solved voices rows t u v w a l H D s))
+      planned b m g sheet text (subst (λ (o : SheetReading). Shown b m g sheet o text) f (solved voices rows t u v w a l H D s))
 
-  pub declined_job : (o : Outcome) (r : Result (Unit {0}) SheetFault) (t : Table) (v : b.State) → is_ok r ≡ false
-      → load_answer r ≡ outcome_answer o → o ≡ read_sheet m sheet → LoadHistory b m g [] sheet o t v → Stands m t (b.view v)
+  pub declined_job : (o : SheetReading) (r : Result (Unit {0}) SheetFault) (t : Table) (v : b.State) → is_ok r ≡ false
+      → load_answer r ≡ reading_answer o → o ≡ read_sheet m sheet → LoadHistory b m g [] sheet o t v → Invariant m t (b.view v)
       → text ≡ report_text (load_answer r) t → Planned b m g sheet text
   declined_job o (Ok y) t v k e f H z s = absurd (both_ways true k refl)
   declined_job (accepted voices rows) (Err f') t v k e f H z s = absurd (subst IsLoaded (sym e) tt)
   declined_job (refused number place layer) (Err f') t v k e f H z s =
-      planned b m g sheet text (subst (λ (o : Outcome). Shown b m g sheet o text) f (record {
+      planned b m g sheet text (subst (λ (o : SheetReading). Shown b m g sheet o text) f (record {
         table = t;
         state = v;
         history = H;
-        stands = z;
+        invariant = z;
         reported = s ∙ ap (λ (x : LoadAnswer). report_text x t) e;
         right = tt;
       }))

@@ -155,8 +155,8 @@ placed_part ms i v s h l f e =
     ∙ any_at (λ n. fixed (at s n) && eqb v (least (at s n))) ms i l
     (and_from (fixed (at s m)) (eqb v (least (at s m))) f (eq-eqb v (least (at s m)) (fixed_member (at s m) v (h m.voice) f e)))
 
-pub quiet : (ms : List Member) (shared placed : ℕ) (s : List ℕ) → Small s → shared ≡ mask 64 (λ v. ltb 1 (holders ms s v)) → placed ≡ used ms s → bit_and shared placed ≡ 0 → takes ms ms s ≡ s
-quiet ms shared placed s h k p z = ap (λ l. takes ms l s) (sym (take_all (length ms) ms (le_refl (length ms)))) ∙ upto (length ms) (le_refl (length ms))
+pub stable : (ms : List Member) (shared placed : ℕ) (s : List ℕ) → Small s → shared ≡ mask 64 (λ v. ltb 1 (holders ms s v)) → placed ≡ used ms s → bit_and shared placed ≡ 0 → takes ms ms s ≡ s
+stable ms shared placed s h k p z = ap (λ l. takes ms l s) (sym (take_all (length ms) ms (le_refl (length ms)))) ∙ upto (length ms) (le_refl (length ms))
   where
     apart : (m : Member) (v : ℕ) → ((w : ℕ) → has (at s m) w ≡ true → has placed w ≡ true) → has (bit_and (at s m) shared) v ≡ false
     apart m v part = has_and (at s m) shared v ∙ elim (cases_Bool (has (at s m) v)) [

@@ -22,7 +22,7 @@ pub type FourKinds = Beside<
 >;
 
 // The bank means the four kinds side by side, where each row goes to the kind whose letter it has.
-pub fn four_kinds_stand()
+pub fn four_kinds_hold()
     ensures meaning { ⟦<FourKinds as Bank>⟧.meaning ≡ four_kinds }
     ensures letters { ByLetter }
 {}

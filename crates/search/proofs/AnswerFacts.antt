@@ -9,12 +9,12 @@ use Rattle.rows.specs.Bytes.{Bytes, decode}
 use Rattle.stores.specs.Stores.{View}
 use Rattle.search.proofs.AnyStore.{any}
 use Rattle.search.specs.Search.{Place, Steps}
-use Rattle.search.specs.Calls.{Table, Call, Answer, Formed, Judgement, reasons, judged, over, says, result, Goes, Solved, Does}
-use Rattle.search.specs.Histories.{History, declared, posted}
+use Rattle.search.specs.Calls.{Table, Call, Answer, Formed, Judgement, reasons, judged, over, place_answer, result, OpensNodes, Solved, Does}
+use Rattle.search.specs.Histories.{History, declared_voices, posted_rows}
 use Rattle.rows.specs.Placed.{Least, Lawless, SameLeast}
-use Rattle.search.specs.Results.{Stands, Reads, Says, finished, Budgeted}
+use Rattle.search.specs.Results.{Invariant, Reads, SolveMeans, finished, Budgeted}
 use Rattle.search.specs.Calls.Call.{declare, post, solve, read, wipe}
-use Rattle.search.proofs.HistoryFacts.{not_both, none_fits, fit, search_stands}
+use Rattle.search.proofs.HistoryFacts.{not_both, none_fits, fit, invariant_holds}
 use Rattle.search.proofs.SetParts.{under}
 
 -- ---- Solve and its budget
@@ -29,13 +29,13 @@ pub record Unaltered (n : ℕ) (t u : Table) : Type 0 where
   pub rows : u.rows ≡ t.rows
   pub opened : u.opened ≡ t.opened + n
 
-pub goes_kept : {m : Meaning} {n : ℕ} {t : Table} {v : View} {u : Table} {w : View} → Goes any m n t v u w → Unaltered n t u
-goes_kept (Goes.stay t v) = record { voices = refl; rows = refl; opened = omega arith }
-goes_kept (Goes.more b t u v w x p n k S G) = let r = goes_kept G in record { voices = r.voices; rows = r.rows; opened = omega (arith, r.opened) }
+pub goes_kept : {m : Meaning} {n : ℕ} {t : Table} {v : View} {u : Table} {w : View} → OpensNodes any m n t v u w → Unaltered n t u
+goes_kept (OpensNodes.stay t v) = record { voices = refl; rows = refl; opened = omega arith }
+goes_kept (OpensNodes.more b t u v w x p n k S G) = let r = goes_kept G in record { voices = r.voices; rows = r.rows; opened = omega (arith, r.opened) }
 
-goes_over : {m : Meaning} {n : ℕ} {t : Table} {v : View} {u : Table} {w : View} → Goes any m n t v u w → over t.place ≡ true → (u ≡ t) × (w ≡ v)
-goes_over (Goes.stay t v) o = (refl, refl)
-goes_over (Goes.more b t u v w x p n k S G) o = absurd (both_ways (over t.place) (steps_not_over S) o)
+goes_over : {m : Meaning} {n : ℕ} {t : Table} {v : View} {u : Table} {w : View} → OpensNodes any m n t v u w → over t.place ≡ true → (u ≡ t) × (w ≡ v)
+goes_over (OpensNodes.stay t v) o = (refl, refl)
+goes_over (OpensNodes.more b t u v w x p n k S G) o = absurd (both_ways (over t.place) (steps_not_over S) o)
 
 abbrev Stops : Answer → Type 0
 Stops Answer.done = ⊥
@@ -45,19 +45,19 @@ Stops Answer.none = ⊥
 Stops Answer.stopped = Unit {0}
 Stops (Answer.wrote n b) = ⊥
 
-stops_open : (x : Place) → says x ≡ Answer.stopped → over x ≡ false
+stops_open : (x : Place) → place_answer x ≡ Answer.stopped → over x ≡ false
 stops_open Place.fresh e = refl
 stops_open (Place.going l ls) e = refl
 stops_open (Place.found p) e = absurd (subst Stops (sym e) tt)
 stops_open Place.none e = absurd (subst Stops (sym e) tt)
 
-open_stops : (x : Place) → over x ≡ false → says x ≡ Answer.stopped
+open_stops : (x : Place) → over x ≡ false → place_answer x ≡ Answer.stopped
 open_stops Place.fresh e = refl
 open_stops (Place.going l ls) e = refl
 open_stops (Place.found p) e = absurd (both_ways true e refl)
 open_stops Place.none e = absurd (both_ways true e refl)
 
-solved : (m : Meaning) (t : Table) (v : View) (b : ℕ) (u : Table) (w : View) → Solved any m b t v u w → Budgeted t b (says u.place) u
+solved : (m : Meaning) (t : Table) (v : View) (b : ℕ) (u : Table) (w : View) → Solved any m b t v u w → Budgeted t b (place_answer u.place) u
 solved m t v b u w S =
     let k = goes_kept S.goes in
     record {
@@ -82,14 +82,14 @@ solve_keeps_budget m t v b a u w j (Does.solves b' u' w' _ S) = solved m t v b u
 
 -- ---- the voices and rows of a history
 
-refused_voices : (m : Meaning) (t : Table) (h : List (Call × Answer)) (c : Call) (n : ℕ) → judged m t c ≡ Judgement.declined n → declared ((c, Answer.refused n) ∷ h) ≡ declared h
+refused_voices : (m : Meaning) (t : Table) (h : List (Call × Answer)) (c : Call) (n : ℕ) → judged m t c ≡ Judgement.declined n → declared_voices ((c, Answer.refused n) ∷ h) ≡ declared_voices h
 refused_voices m t h (declare s) n j = refl
 refused_voices m t h (post bs) n j = refl
 refused_voices m t h (solve b) n j = refl
 refused_voices m t h (read b) n j = refl
 refused_voices m t h wipe n j = absurd (not_both j refl)
 
-refused_rows : (m : Meaning) (t : Table) (h : List (Call × Answer)) (c : Call) (n : ℕ) → judged m t c ≡ Judgement.declined n → posted m ((c, Answer.refused n) ∷ h) ≡ posted m h
+refused_rows : (m : Meaning) (t : Table) (h : List (Call × Answer)) (c : Call) (n : ℕ) → judged m t c ≡ Judgement.declined n → posted_rows m ((c, Answer.refused n) ∷ h) ≡ posted_rows m h
 refused_rows m t h (declare s) n j = refl
 refused_rows m t h (post bs) n j = refl
 refused_rows m t h (solve b) n j = refl
@@ -98,7 +98,7 @@ refused_rows m t h wipe n j = absurd (not_both j refl)
 
 -- they are the table's
 abbrev Given : Meaning → List (Call × Answer) → Table → Type 0
-Given m h t = (declared h ≡ t.voices) × (posted m h ≡ t.rows)
+Given m h t = (declared_voices h ≡ t.voices) × (posted_rows m h ≡ t.rows)
 
 given_after : {m : Meaning} {t : Table} {v : View} {c : Call} {a : Answer} {u : Table} {w : View} (h : List (Call × Answer)) → Does any m t v c a u w → Given m h t → Given m ((c, a) ∷ h) u
 given_after {m} {t} h (Does.declines c n j) g = (refused_voices m t h c n j ∙ g.0, refused_rows m t h c n j ∙ g.1)
@@ -123,29 +123,29 @@ last : {m : Meaning} {h : List (Call × Answer)} {t : Table} {v : View} → {g :
 last (History.made v e) = tt
 last (History.then h t u v w c a H o d) = (t, v, H, d, o)
 
-says_of : (m : Meaning) (t : Table) (v : View) → Stands m t v → (x : Place) → t.place ≡ x → Says m t.voices t.rows (says x)
+says_of : (m : Meaning) (t : Table) (v : View) → Invariant m t v → (x : Place) → t.place ≡ x → SolveMeans m t.voices t.rows (place_answer x)
 says_of m t v s Place.fresh e = tt
 says_of m t v s (Place.going l ls) e = tt
 says_of m t v s (Place.found p) e = s.found_least p e
 says_of m t v s Place.none e = s.none_lawful e
 
-says_after : (m : Meaning) (t : Table) (v : View) (b : ℕ) (a : Answer) (u : Table) (w : View) → Does any m t v (solve b) a u w → Stands m u w → Says m u.voices u.rows a
+says_after : (m : Meaning) (t : Table) (v : View) (b : ℕ) (a : Answer) (u : Table) (w : View) → Does any m t v (solve b) a u w → Invariant m u w → SolveMeans m u.voices u.rows a
 says_after m t v b a u w (Does.declines c n d) s = tt
 says_after m t v b a u w (Does.solves b' u' w' _ S) s = says_of m u w s u.place refl
 
-answer_stands : (m : Meaning) → Laws m → (h : List (Call × Answer)) (b : ℕ) (a : Answer) (t : Table) (v : View)
-    → {g : View} → History any m g ((solve b, a) ∷ h) t v → Says m (declared h) (posted m h) a
-answer_stands m L h b a t v H =
+answer_holds : (m : Meaning) → Laws m → (h : List (Call × Answer)) (b : ℕ) (a : Answer) (t : Table) (v : View)
+    → {g : View} → History any m g ((solve b, a) ∷ h) t v → SolveMeans m (declared_voices h) (posted_rows m h) a
+answer_holds m L h b a t v H =
     let g = given H in
     let (x, y, _, d, _) = last H in
-    subst₂ (λ (vs : List ℕ) (rs : List RowData). Says m vs rs a) (sym g.0) (sym g.1) (says_after m x y b a t v d (search_stands m L ((solve b, a) ∷ h) t v H))
+    subst₂ (λ (vs : List ℕ) (rs : List RowData). SolveMeans m vs rs a) (sym g.0) (sym g.1) (says_after m x y b a t v d (invariant_holds m L ((solve b, a) ∷ h) t v H))
 
-pub answers_stand : (m : Meaning) → Laws m → (later before : List (Call × Answer)) (b : ℕ) (a : Answer) (t : Table) (v : View)
-    → {g : View} → History any m g (later ++ ((solve b, a) ∷ before)) t v → Says m (declared before) (posted m before) a
-answers_stand m L [] before b a t v H = answer_stands m L before b a t v H
-answers_stand m L (x ∷ later) before b a t v H = let (t', v', G, _, _) = last H in answers_stand m L later before b a t' v' G
+pub answers_hold : (m : Meaning) → Laws m → (later before : List (Call × Answer)) (b : ℕ) (a : Answer) (t : Table) (v : View)
+    → {g : View} → History any m g (later ++ ((solve b, a) ∷ before)) t v → SolveMeans m (declared_voices before) (posted_rows m before) a
+answers_hold m L [] before b a t v H = answer_holds m L before b a t v H
+answers_hold m L (x ∷ later) before b a t v H = let (t', v', G, _, _) = last H in answers_hold m L later before b a t' v' G
 
-pub tables_given : (m : Meaning) (h : List (Call × Answer)) (t : Table) (v : View) → {g : View} → History any m g h t v → (t.voices ≡ declared h) × (t.rows ≡ posted m h)
+pub tables_given : (m : Meaning) (h : List (Call × Answer)) (t : Table) (v : View) → {g : View} → History any m g h t v → (t.voices ≡ declared_voices h) × (t.rows ≡ posted_rows m h)
 tables_given m h t v H = let g = given H in (sym g.0, sym g.1)
 
 -- ---- the values that Read wrote
@@ -179,14 +179,14 @@ wrote m t v buffer a u w (Does.reads b p j e) =
     let f = ltb-false (length buffer) (length (result t.place)) (none_fits (reasons m t (read buffer)) j).1.0 in
     ((p, e, subst (λ (x : Place). length (result x) ≤ length buffer) e f, refl, refl), refl)
 
-read_stands : (m : Meaning) → Laws m → (h : List (Call × Answer)) (buffer : List ℕ) (n : ℕ) (b : List ℕ) (t : Table) (v : View)
-    → {g : View} → History any m g ((read buffer, Answer.wrote n b) ∷ h) t v → Reads m (declared h) (posted m h) buffer n b
-read_stands m L h buffer n b t v H =
+read_holds : (m : Meaning) → Laws m → (h : List (Call × Answer)) (buffer : List ℕ) (n : ℕ) (b : List ℕ) (t : Table) (v : View)
+    → {g : View} → History any m g ((read buffer, Answer.wrote n b) ∷ h) t v → Reads m (declared_voices h) (posted_rows m h) buffer n b
+read_holds m L h buffer n b t v H =
     let g = given H in
     let (x, y, G, d, fo) = last H in
     let r = wrote m x y buffer (Answer.wrote n b) t v d in
     let (p, e, k, en, eb) = r.0 in
-    let s = search_stands m L h x y G in
+    let s = invariant_holds m L h x y G in
     let f = fit m L G in
     let le : Least m x.voices x.rows p = s.found_least p e in
     let tk : take n b ≡ p = ap₂ (λ (i : ℕ) (z : List ℕ). take i z) en eb ∙ take_at p (drop (length p) buffer) (length p) refl in
@@ -201,10 +201,10 @@ read_stands m L h buffer n b t v H =
       bytes = subst Bytes (sym eb) (bytes_beyond p buffer k (value_bytes p x.voices f.proper le.lawful.within) fo);
     })
 
-pub reads_stand : (m : Meaning) → Laws m → (later before : List (Call × Answer)) (buffer : List ℕ) (n : ℕ) (b : List ℕ) (t : Table) (v : View)
-    → {g : View} → History any m g (later ++ ((read buffer, Answer.wrote n b) ∷ before)) t v → Reads m (declared before) (posted m before) buffer n b
-reads_stand m L [] before buffer n b t v H = read_stands m L before buffer n b t v H
-reads_stand m L (x ∷ later) before buffer n b t v H = let (t', v', G, _, _) = last H in reads_stand m L later before buffer n b t' v' G
+pub reads_hold : (m : Meaning) → Laws m → (later before : List (Call × Answer)) (buffer : List ℕ) (n : ℕ) (b : List ℕ) (t : Table) (v : View)
+    → {g : View} → History any m g (later ++ ((read buffer, Answer.wrote n b) ∷ before)) t v → Reads m (declared_voices before) (posted_rows m before) buffer n b
+reads_hold m L [] before buffer n b t v H = read_holds m L before buffer n b t v H
+reads_hold m L (x ∷ later) before buffer n b t v H = let (t', v', G, _, _) = last H in reads_hold m L later before buffer n b t' v' G
 
 -- ---- equal results
 
@@ -226,7 +226,7 @@ least_one m voices rows p q a b =
     ]
 
 module _ (m m' : Meaning) (vs vs' : List ℕ) (rs rs' : List RowData) where
-  same_from : (a : Answer) → finished a ≡ true → Says m vs rs a → Says m' vs' rs' a → SameLeast m vs rs m' vs' rs'
+  same_from : (a : Answer) → finished a ≡ true → SolveMeans m vs rs a → SolveMeans m' vs' rs' a → SameLeast m vs rs m' vs' rs'
   same_from Answer.done f x y = absurd x
   same_from (Answer.refused n) f x y = absurd (both_ways false refl f)
   same_from (Answer.found p) f x y = inl (p, x, y)
@@ -235,7 +235,7 @@ module _ (m m' : Meaning) (vs vs' : List ℕ) (rs rs' : List RowData) where
   same_from (Answer.wrote n b) f x y = absurd x
 
 -- an answer that is a result, by what the table has
-result_found : (m : Meaning) (vs : List ℕ) (rs : List RowData) (a : Answer) (p : List ℕ) → finished a ≡ true → Says m vs rs a → Least m vs rs p → a ≡ Answer.found p
+result_found : (m : Meaning) (vs : List ℕ) (rs : List RowData) (a : Answer) (p : List ℕ) → finished a ≡ true → SolveMeans m vs rs a → Least m vs rs p → a ≡ Answer.found p
 result_found m vs rs Answer.done p f x l = absurd x
 result_found m vs rs (Answer.refused n) p f x l = absurd (both_ways false refl f)
 result_found m vs rs (Answer.found q) p f x l = ap Answer.found (least_one m vs rs q p x l)
@@ -243,7 +243,7 @@ result_found m vs rs Answer.none p f x l = absurd (x p l.lawful)
 result_found m vs rs Answer.stopped p f x l = absurd (both_ways false refl f)
 result_found m vs rs (Answer.wrote n b) p f x l = absurd x
 
-result_none : (m : Meaning) (vs : List ℕ) (rs : List RowData) (a : Answer) → finished a ≡ true → Says m vs rs a → Lawless m vs rs → a ≡ Answer.none
+result_none : (m : Meaning) (vs : List ℕ) (rs : List RowData) (a : Answer) → finished a ≡ true → SolveMeans m vs rs a → Lawless m vs rs → a ≡ Answer.none
 result_none m vs rs Answer.done f x l = absurd x
 result_none m vs rs (Answer.refused n) f x l = absurd (both_ways false refl f)
 result_none m vs rs (Answer.found q) f x l = absurd (l q x.lawful)
@@ -253,13 +253,13 @@ result_none m vs rs (Answer.wrote n b) f x l = absurd x
 
 pub results_agree : (m m' : Meaning) → Laws m → Laws m' → (later later' h h' : List (Call × Answer)) (b b' : ℕ) (a a' : Answer) (t t' : Table) (v v' : View)
     → {g : View} → History any m g (later ++ ((solve b, a) ∷ h)) t v → {g' : View} → History any m' g' (later' ++ ((solve b', a') ∷ h')) t' v' → finished a ≡ true → finished a' ≡ true
-    → (a ≡ a') ↔ SameLeast m (declared h) (posted m h) m' (declared h') (posted m' h')
+    → (a ≡ a') ↔ SameLeast m (declared_voices h) (posted_rows m h) m' (declared_voices h') (posted_rows m' h')
 results_agree m m' L L' later later' h h' b b' a a' t t' v v' H H' f f' =
-    let x = answers_stand m L later h b a t v H in
-    let y = answers_stand m' L' later' h' b' a' t' v' H' in (
-      (λ e. same_from m m' (declared h) (declared h') (posted m h) (posted m' h') a f x (subst (Says m' (declared h') (posted m' h')) (sym e) y)),
+    let x = answers_hold m L later h b a t v H in
+    let y = answers_hold m' L' later' h' b' a' t' v' H' in (
+      (λ e. same_from m m' (declared_voices h) (declared_voices h') (posted_rows m h) (posted_rows m' h') a f x (subst (SolveMeans m' (declared_voices h') (posted_rows m' h')) (sym e) y)),
       (λ s. elim s [
-        | inl k ↦ result_found m (declared h) (posted m h) a k.0 f x k.1 ∙ sym (result_found m' (declared h') (posted m' h') a' k.0 f' y k.2)
-        | inr k ↦ result_none m (declared h) (posted m h) a f x k.0 ∙ sym (result_none m' (declared h') (posted m' h') a' f' y k.1)
+        | inl k ↦ result_found m (declared_voices h) (posted_rows m h) a k.0 f x k.1 ∙ sym (result_found m' (declared_voices h') (posted_rows m' h') a' k.0 f' y k.2)
+        | inr k ↦ result_none m (declared_voices h) (posted_rows m h) a f x k.0 ∙ sym (result_none m' (declared_voices h') (posted_rows m' h') a' f' y k.1)
       ]),
     )

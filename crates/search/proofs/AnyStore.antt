@@ -7,7 +7,7 @@ use Rattle.stores.specs.Stores.{View, Emptied, Keeps}
 use Rattle.stores.specs.Behaviours.{Behaviour}
 use Rattle.stores.specs.declared.store.Stored.TheVariants.{Kept, Lost}
 use Rattle.search.specs.Search.{Level, Place, BacksUp, Opens, Steps}
-use Rattle.search.specs.Calls.{Table, Call, Answer, over, Goes, Does}
+use Rattle.search.specs.Calls.{Table, Call, Answer, over, OpensNodes, Does}
 use Rattle.search.specs.Histories.{History}
 use Rattle.search.specs.CallOutcomes.{BacksNew, OpensNew, StepsNew}
 
@@ -46,9 +46,9 @@ module _ (b : Behaviour) (m : Meaning) where
   steps_any (Steps.first s t p n k O) = Steps.first (b.view s) (b.view t) p n k (opens_any O)
   steps_any (Steps.again l ls s t p n k O) = Steps.again l ls (b.view s) (b.view t) p n k (opens_any O)
 
-  pub goes_any : {n : ℕ} {t : Table} {s : b.State} {u : Table} {r : b.State} → Goes b m n t s u r → Goes any m n t (b.view s) u (b.view r)
-  goes_any (Goes.stay t s) = Goes.stay t (b.view s)
-  goes_any (Goes.more i t u s r x p n k S G) = Goes.more i t u (b.view s) (b.view r) (b.view x) p n k (steps_any S) (goes_any G)
+  pub goes_any : {n : ℕ} {t : Table} {s : b.State} {u : Table} {r : b.State} → OpensNodes b m n t s u r → OpensNodes any m n t (b.view s) u (b.view r)
+  goes_any (OpensNodes.stay t s) = OpensNodes.stay t (b.view s)
+  goes_any (OpensNodes.more i t u s r x p n k S G) = OpensNodes.more i t u (b.view s) (b.view r) (b.view x) p n k (steps_any S) (goes_any G)
 
   pub does_any : {t : Table} {s : b.State} {c : Call} {a : Answer} {u : Table} {r : b.State} → Does b m t s c a u r → Does any m t (b.view s) c a u (b.view r)
   does_any (Does.declines c n j) = Does.declines c n j
@@ -90,6 +90,6 @@ module _ (b : Behaviour) (m : Meaning) where
   steps_open (Steps.first s t p n k O) = refl
   steps_open (Steps.again l ls s t p n k O) = refl
 
-  pub goes_over : {n : ℕ} {t : Table} {s : b.State} {u : Table} {r : b.State} → Goes b m n t s u r → over t.place ≡ true → r ≡ s
-  goes_over (Goes.stay t s) o = refl
-  goes_over (Goes.more i t u s r x p n k S G) o = absurd (both_ways (over t.place) (steps_open S) o)
+  pub goes_over : {n : ℕ} {t : Table} {s : b.State} {u : Table} {r : b.State} → OpensNodes b m n t s u r → over t.place ≡ true → r ≡ s
+  goes_over (OpensNodes.stay t s) o = refl
+  goes_over (OpensNodes.more i t u s r x p n k S G) o = absurd (both_ways (over t.place) (steps_open S) o)

@@ -11,7 +11,7 @@ use Rattle.stores.specs.Stores.{member, View}
 use Rattle.search.proofs.AnyStore.{any}
 use Rattle.search.specs.Search.{Level, Place, Node, Lowest, below, first_open, level_of, node, child, taken, BacksUp, Opens, Steps}
 use Rattle.search.specs.Propagation.{propagated}
-use Rattle.search.specs.Calls.{Table, Call, Answer, Goes, Does}
+use Rattle.search.specs.Calls.{Table, Call, Answer, OpensNodes, Does}
 use Rattle.search.specs.Histories.{History}
 use Rattle.search.specs.Branching.{AboveNewest, Ascending, NodeLowest, TableLowest, Rising}
 use Rattle.rows.specs.Placed.{AllAccepted}
@@ -118,7 +118,7 @@ fit_looks m L t v f =
     }
 
 pub branches_lowest : (m : Meaning) → Laws m → (h : List (Call × Answer)) (t : Table) (v : View) → {g : View} → History any m g h t v
-    → (n : ℕ) (u : Table) (w : View) → Goes any m n t v u w → TableLowest m u w
+    → (n : ℕ) (u : Table) (w : View) → OpensNodes any m n t v u w → TableLowest m u w
 branches_lowest m L h t v H n u w G = fit_looks m L u w (goes m L G (fit m L H))
 
 -- ---- with no law of the bank
@@ -153,9 +153,9 @@ rise_steps : {m : Meaning} {voices : List ℕ} {rows : List RowData} {p : Place}
 rise_steps (Steps.first v w p n k O) r = rise_opens O tt
 rise_steps (Steps.again l ls v w p n k O) r = rise_opens O r
 
-rise_goes : {m : Meaning} {n : ℕ} {t : Table} {v : View} {u : Table} {w : View} → Goes any m n t v u w → PlaceRises t.place → PlaceRises u.place
-rise_goes (Goes.stay t v) r = r
-rise_goes (Goes.more b t u v w x p n k S G) r = rise_goes G (rise_steps S r)
+rise_goes : {m : Meaning} {n : ℕ} {t : Table} {v : View} {u : Table} {w : View} → OpensNodes any m n t v u w → PlaceRises t.place → PlaceRises u.place
+rise_goes (OpensNodes.stay t v) r = r
+rise_goes (OpensNodes.more b t u v w x p n k S G) r = rise_goes G (rise_steps S r)
 
 rise_does : {m : Meaning} {t : Table} {v : View} {c : Call} {a : Answer} {u : Table} {w : View} → Does any m t v c a u w → PlaceRises t.place → PlaceRises u.place
 rise_does (Does.declines c n j) r = r
@@ -170,5 +170,5 @@ rise_history (History.made v e) = tt
 rise_history (History.then h t u v w c a H o d) = rise_does d (rise_history H)
 
 pub levels_rise : (m : Meaning) (h : List (Call × Answer)) (t : Table) (v : View) → {g : View} → History any m g h t v
-    → (n : ℕ) (u : Table) (w : View) → Goes any m n t v u w → (l : Level) (ls : List Level) → u.place ≡ going l ls → Rising (l ∷ ls)
+    → (n : ℕ) (u : Table) (w : View) → OpensNodes any m n t v u w → (l : Level) (ls : List Level) → u.place ≡ going l ls → Rising (l ∷ ls)
 levels_rise m h t v H n u w G l ls e = subst PlaceRises e (rise_goes G (rise_history H))

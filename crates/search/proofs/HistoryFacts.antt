@@ -11,9 +11,9 @@ use Rattle.rows.proofs.Layouts.{bytes_both_ways}
 use Rattle.stores.specs.Stores.{member, View, distinct_keys}
 use Rattle.search.proofs.AnyStore.{any}
 use Rattle.search.specs.Search.{Place}
-use Rattle.search.specs.Calls.{Table, Call, Answer, Formed, Judgement, reasons, judge, judged, declined_under, Goes, Does, empty}
+use Rattle.search.specs.Calls.{Table, Call, Answer, Formed, Judgement, reasons, judge, judged, declined_under, OpensNodes, Does, empty}
 use Rattle.search.specs.Histories.{History}
-use Rattle.search.specs.Results.{Stands}
+use Rattle.search.specs.Results.{Invariant}
 use Rattle.rows.specs.Placed.{AllAccepted}
 use Rattle.search.specs.Search.Place.{fresh, going, found, none}
 use Rattle.search.specs.Calls.Call.{declare, post}
@@ -91,9 +91,9 @@ posted_row m t bs j b =
     record { shape = ((bytes_both_ways m).1 bs b (layout m t bs j)).0.shape; yes = verdict (m.accepts (decode m bs) (length t.voices)) f.0 f.1.0 }
 
 module _ (m : Meaning) (L : Laws m) where
-  pub goes : {b : ℕ} {t : Table} {v : View} {u : Table} {w : View} → Goes any m b t v u w → Fit m t v → Fit m u w
-  goes (Goes.stay t v) f = f
-  goes (Goes.more b t u v w x p n k S G) f =
+  pub goes : {b : ℕ} {t : Table} {v : View} {u : Table} {w : View} → OpensNodes any m b t v u w → Fit m t v → Fit m u w
+  goes (OpensNodes.stay t v) f = f
+  goes (OpensNodes.more b t u v w x p n k S G) f =
       let next = steps m L t.rows t.voices f.okay f.proper S t.opened t.exhausted t.lost (f.stage, f.store) in
       goes G (record { proper = f.proper; okay = f.okay; stage = next.0; store = next.1 })
 
@@ -130,8 +130,8 @@ module _ (m : Meaning) (L : Laws m) where
   bounded rows voices v o e (found p) s = s.2
   bounded rows voices v o e none s = s.1
 
-  pub search_stands : (h : List (Call × Answer)) (t : Table) (v : View) → {g : View} → History any m g h t v → Stands m t v
-  search_stands h t v H =
+  pub invariant_holds : (h : List (Call × Answer)) (t : Table) (v : View) → {g : View} → History any m g h t v → Invariant m t v
+  invariant_holds h t v H =
       let f = fit H in
       let at : (p : Place) → t.place ≡ p → Stage m t.rows t.voices p v t.opened t.exhausted =
       λ p e. subst (λ (x : Place). Stage m t.rows t.voices x v t.opened t.exhausted) e f.stage in

@@ -2,7 +2,7 @@ pub mod Scans
 pub mod SetParts
 pub mod Boxes
 pub mod PropagationFacts
-pub mod Quiet
+pub mod StableRows
 pub mod KeyFacts
 pub mod LevelFacts
 pub mod AnyStore

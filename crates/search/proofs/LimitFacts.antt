@@ -9,7 +9,7 @@ use Rattle.rows.proofs.Layouts.{bytes_both_ways}
 use Rattle.stores.specs.Stores.{View}
 use Rattle.search.proofs.AnyStore.{any}
 use Rattle.search.specs.Limits.{most_voices, most_rows, most_bytes, most_opened}
-use Rattle.search.specs.Calls.{Table, Call, Answer, Formed, Judgement, reasons, judged, empty, over, says, Does}
+use Rattle.search.specs.Calls.{Table, Call, Answer, Formed, Judgement, reasons, judged, empty, over, place_answer, Does}
 use Rattle.search.specs.Calls.Call.{declare, post, solve}
 use Rattle.search.specs.Histories.{History}
 use Rattle.search.specs.Results.{AllLaidOut, Limited}
@@ -28,9 +28,9 @@ module _ (m : Meaning) where
   none_yet : Limited m empty
   none_yet = record { voices = omega arith; sets = λ i l. absurd (omega arith); rows = omega arith; bytes = omega arith; laid_out = tt; opened = omega arith }
 
-  solve_limit : (t : Table) (v : View) (b : ℕ) (u : Table) (w : View) → judged m t (solve b) ≡ Judgement.passes → Does any m t v (solve b) (says u.place) u w → t.opened ≤ most_opened → u.opened ≤ most_opened
+  solve_limit : (t : Table) (v : View) (b : ℕ) (u : Table) (w : View) → judged m t (solve b) ≡ Judgement.passes → Does any m t v (solve b) (place_answer u.place) u w → t.opened ≤ most_opened → u.opened ≤ most_opened
   solve_limit t v b u w j d l =
-      let k = solve_keeps_budget m t v b (says u.place) u w j d in
+      let k = solve_keeps_budget m t v b (place_answer u.place) u w j d in
       let f = (none_fits (reasons m t (solve b)) j).1.0 in
       elim (cases_Bool (over t.place)) [
         | inl o ↦ omega (arith, l, ap (λ (x : Table). x.opened) (k.repeats o))
@@ -78,5 +78,5 @@ module _ (m : Meaning) where
   limits (History.made v e) = none_yet
   limits (History.then h t u v w c a H o d) = limits_after d o (limits H)
 
-pub limits_stand : (m : Meaning) (h : List (Call × Answer)) (t : Table) (v : View) → {g : View} → History any m g h t v → Limited m t
-limits_stand m h t v H = limits m H
+pub limits_hold : (m : Meaning) (h : List (Call × Answer)) (t : Table) (v : View) → {g : View} → History any m g h t v → Limited m t
+limits_hold m h t v H = limits m H

@@ -8,9 +8,9 @@ use Rattle.stores.specs.Behaviours.{Behaviour, Decided}
 use Rattle.stores.specs.declared.store.Stored.{Stored}
 use Rattle.search.specs.Search.{Level, Place, Node, node, below, child, taken, BacksUp, Opens, Steps}
 use Rattle.search.specs.Propagation.{propagated}
-use Rattle.search.specs.Calls.{Table, begun, empty, Call, Answer, Judgement, judged, reasons, over, is_found, says, result, Goes, Solved, Does}
-use Rattle.search.specs.Histories.{History, calls_of}
-use Rattle.search.specs.CallOutcomes.{Outcome}
+use Rattle.search.specs.Calls.{Table, begun, empty, Call, Answer, Judgement, judged, reasons, over, is_found, place_answer, result, OpensNodes, Solved, Does}
+use Rattle.search.specs.Histories.{History, calls_in}
+use Rattle.search.specs.CallOutcomes.{CallOutcome}
 use Rattle.search.specs.Theorems.{OneOutcome, OneHistory}
 use Rattle.stores.specs.declared.store.Stored.TheVariants.{Kept, Lost}
 use Rattle.search.specs.Search.Place.{fresh, going, found, none}
@@ -116,11 +116,11 @@ module _ (store : Behaviour) (d : Decided store) (m : Meaning) where
   run_more b t v e =
       ap (λ (x : Bool). elim x [ true ↦ (t, v) | false ↦ run b (next t (step t.voices t.rows t.place v)) (step t.voices t.rows t.place v).state ]) e
 
-  run_is : {n : ℕ} {t : Table} {v : store.State} {u : Table} {w : store.State} (G : Goes store m n t v u w) → (b : ℕ) → n ≤ b → (over u.place ≡ true) ⊎ (n ≡ b) → run b t v ≡ (u, w)
-  run_is (Goes.stay t v) zero l e = refl
-  run_is (Goes.stay t v) (suc b) l e = elim e [ inl o ↦ run_over (suc b) t v o | inr o ↦ absurd (omega arith) ]
-  run_is (Goes.more n t u v w x p i k S G) zero l e = absurd (omega arith)
-  run_is (Goes.more n t u v w x p i k S G) (suc b) l e =
+  run_is : {n : ℕ} {t : Table} {v : store.State} {u : Table} {w : store.State} (G : OpensNodes store m n t v u w) → (b : ℕ) → n ≤ b → (over u.place ≡ true) ⊎ (n ≡ b) → run b t v ≡ (u, w)
+  run_is (OpensNodes.stay t v) zero l e = refl
+  run_is (OpensNodes.stay t v) (suc b) l e = elim e [ inl o ↦ run_over (suc b) t v o | inr o ↦ absurd (omega arith) ]
+  run_is (OpensNodes.more n t u v w x p i k S G) zero l e = absurd (omega arith)
+  run_is (OpensNodes.more n t u v w x p i k S G) (suc b) l e =
       run_more b t v (steps_open store m S)
       ∙ ap (λ (r : Ran store.State). run b (next t r) r.state) (step_is S)
       ∙ run_is G b (omega arith) (elim e [ inl o ↦ inl o | inr o ↦ inr (omega arith) ])
@@ -129,7 +129,7 @@ module _ (store : Behaviour) (d : Decided store) (m : Meaning) where
   comes t v c (declined n) = (Answer.refused n, t, v)
   comes t v (declare x) passes = (Answer.done, begun (t.voices ++ (x ∷ [])) t.rows, d.emptied v)
   comes t v (post bs) passes = (Answer.done, begun t.voices (t.rows ++ (decode m bs ∷ [])), d.emptied v)
-  comes t v (solve b) passes = (says (run b t v).0.place, (run b t v).0, (run b t v).1)
+  comes t v (solve b) passes = (place_answer (run b t v).0.place, (run b t v).0, (run b t v).1)
   comes t v (read buffer) passes = (Answer.wrote (length (result t.place)) (result t.place ++ drop (length (result t.place)) buffer), t, v)
   comes t v wipe passes = (Answer.done, empty, d.emptied v)
 
@@ -139,11 +139,11 @@ module _ (store : Behaviour) (d : Decided store) (m : Meaning) where
   does_is {t} {v} (Does.posts bs w j e) = ap (comes t v (post bs)) j ∙ ap (λ (z : store.State). (Answer.done, begun t.voices (t.rows ++ (decode m bs ∷ [])), z)) (sym (d.emptied_only v w e))
   does_is {t} {v} (Does.wipes w e) = ap (λ (z : store.State). (Answer.done, empty, z)) (sym (d.emptied_only v w e))
   does_is {t} {v} (Does.solves b u w j S) =
-      ap (comes t v (solve b)) j ∙ ap (λ (r : Table × store.State). (says r.0.place, r.0, r.1)) (run_is S.goes b S.inside S.ends)
+      ap (comes t v (solve b)) j ∙ ap (λ (r : Table × store.State). (place_answer r.0.place, r.0, r.1)) (run_is S.goes b S.inside S.ends)
   does_is {t} {v} (Does.reads buffer p j e) =
       ap (comes t v (read buffer)) j ∙ ap (λ (x : Place). (Answer.wrote (length (result x)) (result x ++ drop (length (result x)) buffer), t, v)) e
 
-  only_one : (t : Table) (v : store.State) (c : Call) (x y : Outcome store m t v c) → (x.answer ≡ y.answer) × (x.table ≡ y.table) × (x.state ≡ y.state)
+  only_one : (t : Table) (v : store.State) (c : Call) (x y : CallOutcome store m t v c) → (x.answer ≡ y.answer) × (x.table ≡ y.table) × (x.state ≡ y.state)
   only_one t v c x y =
       let e : (x.answer, x.table, x.state) ≡ (y.answer, y.table, y.state) = sym (does_is x.does) ∙ does_is y.does in
       (ap (λ (r : Answer × Table × store.State). r.0) e, ap (λ (r : Answer × Table × store.State). r.1) e, ap (λ (r : Answer × Table × store.State). r.2) e)
@@ -227,10 +227,10 @@ module _ (store : Behaviour) (d : Decided store) (m : Meaning) where
     does : Solved store m b t v table state
 
   some_solve : (b : ℕ) (t : Table) (v : store.State) → SomeSolve b t v
-  some_solve zero t v = record { table = t; state = v; does = record { count = 0; inside = omega arith; goes = Goes.stay t v; ends = inr refl } }
+  some_solve zero t v = record { table = t; state = v; does = record { count = 0; inside = omega arith; goes = OpensNodes.stay t v; ends = inr refl } }
   some_solve (suc b) t v =
       elim (some_step t.voices t.rows t.place v) [
-        | inl e ↦ record { table = t; state = v; does = record { count = 0; inside = omega arith; goes = Goes.stay t v; ends = inl e } }
+        | inl e ↦ record { table = t; state = v; does = record { count = 0; inside = omega arith; goes = OpensNodes.stay t v; ends = inl e } }
         | inr q ↦
             let r = some_solve b (next t (record { place = q.place; state = q.state; exhausts = q.exhausts; loses = q.loses })) q.state in
             record {
@@ -239,7 +239,7 @@ module _ (store : Behaviour) (d : Decided store) (m : Meaning) where
               does = record {
                 count = suc r.does.count;
                 inside = omega (arith, r.does.inside);
-                goes = Goes.more r.does.count t r.table v q.state r.state q.place q.exhausts q.loses q.does r.does.goes;
+                goes = OpensNodes.more r.does.count t r.table v q.state r.state q.place q.exhausts q.loses q.does r.does.goes;
                 ends = elim r.does.ends [ inl e ↦ inl e | inr e ↦ inr (ap suc e) ];
               };
             }
@@ -251,10 +251,10 @@ module _ (store : Behaviour) (d : Decided store) (m : Meaning) where
   found_by (found p) e = refl
   found_by none e = absurd (both_ways false refl e)
 
-  outcome : (t : Table) (v : store.State) (c : Call) → Outcome store m t v c
+  outcome : (t : Table) (v : store.State) (c : Call) → CallOutcome store m t v c
   outcome t v c = go c (judged m t c) refl
     where
-      go : (c : Call) (j : Judgement) → judged m t c ≡ j → Outcome store m t v c
+      go : (c : Call) (j : Judgement) → judged m t c ≡ j → CallOutcome store m t v c
       go c (declined n) e = record { answer = Answer.refused n; table = t; state = v; does = Does.declines c n e }
       go (declare x) passes e =
           record { answer = Answer.done; table = begun (t.voices ++ (x ∷ [])) t.rows; state = d.emptied v; does = Does.declares x (d.emptied v) e (d.empties v) }
@@ -262,7 +262,7 @@ module _ (store : Behaviour) (d : Decided store) (m : Meaning) where
           record { answer = Answer.done; table = begun t.voices (t.rows ++ (decode m bs ∷ [])); state = d.emptied v; does = Does.posts bs (d.emptied v) e (d.empties v) }
       go (solve b) passes e =
           let r = some_solve b t v in
-          record { answer = says r.table.place; table = r.table; state = r.state; does = Does.solves b r.table r.state e r.does }
+          record { answer = place_answer r.table.place; table = r.table; state = r.state; does = Does.solves b r.table r.state e r.does }
       go (read buffer) passes e =
           let p = result t.place in
           record {
@@ -298,7 +298,7 @@ module _ (store : Behaviour) (d : Decided store) (m : Meaning) (g : store.State)
   replay (c ∷ cs) = play c (replay cs)
 
   -- a history is what its calls come to when they are played
-  pub replayed : {h : List (Call × Answer)} {t : Table} {s : store.State} → History store m g h t s → replay (calls_of h) ≡ record { calls = h; table = t; state = s }
+  pub replayed : {h : List (Call × Answer)} {t : Table} {s : store.State} → History store m g h t s → replay (calls_in h) ≡ record { calls = h; table = t; state = s }
   replayed (History.made s e) = ap (λ (x : store.State). record { calls = []; table = empty; state = x }) (sym (d.emptied_only g s e))
   replayed (History.then h t u s r c a H f D) = ap (play c) (replayed H) ∙ ap (noted c h) (does_is store d m D)
 

@@ -4,7 +4,7 @@ use Rattle.rows.specs.Rows.{Meaning}
 use Rattle.stores.specs.Behaviours.{Behaviour}
 use Rattle.search.specs.Calls.{Table, Answer, Judgement, judged, over, Does}
 use Rattle.search.specs.Calls.Call.{solve}
-use Rattle.search.specs.Theorems.{SearchStands, BranchesLowest, LevelsRise, NeverTwice, AnswersStand, ReadsStand, TablesGiven, ResultsAgree, SolveKeepsBudget, LimitsStand, StoresAgree}
+use Rattle.search.specs.Theorems.{InvariantHolds, BranchesLowest, LevelsRise, NeverTwice, AnswersHold, ReadsHold, TablesGiven, ResultsAgree, SolveKeepsBudget, LimitsHold, StoresAgree}
 use Rattle.search.proofs.AnyStore.{history_any, goes_any, steps_any, does_any, steps_new, goes_over}
 use Rattle.search.proofs.HistoryFacts as histories
 use Rattle.search.proofs.HistoryFacts.{not_both}
@@ -15,8 +15,8 @@ use Rattle.search.proofs.NeverTwice as twice
 use Rattle.search.proofs.StoreFacts as stores
 
 module _ (b : Behaviour) where
-  pub search_stands : SearchStands b
-  search_stands m L g h t s H = histories.search_stands m L h t (b.view s) (history_any b m H)
+  pub invariant_holds : InvariantHolds b
+  invariant_holds m L g h t s H = histories.invariant_holds m L h t (b.view s) (history_any b m H)
 
   pub branches_lowest : BranchesLowest b
   branches_lowest m L g h t s H n u r G = branching.branches_lowest m L h t (b.view s) (history_any b m H) n u (b.view r) (goes_any b m G)
@@ -28,17 +28,17 @@ module _ (b : Behaviour) where
   never_twice m L g h t s H n u r G p x i k S =
       steps_new b m S (twice.never_twice m L h t (b.view s) (history_any b m H) n u (b.view r) (goes_any b m G) p (b.view x) i k (steps_any b m S))
 
-  pub answers_stand : AnswersStand b
-  answers_stand m L g later before budget a t s H = answers.answers_stand m L later before budget a t (b.view s) (history_any b m H)
+  pub answers_hold : AnswersHold b
+  answers_hold m L g later before budget a t s H = answers.answers_hold m L later before budget a t (b.view s) (history_any b m H)
 
-  pub reads_stand : ReadsStand b
-  reads_stand m L g later before buffer n left t s H = answers.reads_stand m L later before buffer n left t (b.view s) (history_any b m H)
+  pub reads_hold : ReadsHold b
+  reads_hold m L g later before buffer n left t s H = answers.reads_hold m L later before buffer n left t (b.view s) (history_any b m H)
 
   pub tables_given : TablesGiven b
   tables_given m g h t s H = answers.tables_given m h t (b.view s) (history_any b m H)
 
-  pub limits_stand : LimitsStand b
-  limits_stand m g h t s H = limits.limits_stand m h t (b.view s) (history_any b m H)
+  pub limits_hold : LimitsHold b
+  limits_hold m g h t s H = limits.limits_hold m h t (b.view s) (history_any b m H)
 
   solve_leaves : (m : Meaning) (t : Table) (s : b.State) (budget : ℕ) (a : Answer) (u : Table) (r : b.State)
       → judged m t (solve budget) ≡ Judgement.passes → Does b m t s (solve budget) a u r → over t.place ≡ true → r ≡ s

@@ -3,7 +3,7 @@ use Rattle.std.proofs.Common.{◌≡◌, ℕ, ◌<◌, ◌≤◌, Bool, true, fa
 use Rattle.std.proofs.lemmas.Bool.{both_ways, ne_eqb, eq-eqb, or_from, or_left, or_right, and_from, and_left, and_right, cases_order}
 use Rattle.rows.specs.Rows.{Meaning}
 use Rattle.search.specs.Calls.{Table, Call, Judgement, reasons, judge, judged}
-use Rattle.search.specs.Results.{fits}
+use Rattle.search.specs.Results.{reason_fits}
 use Rattle.search.specs.Calls.Call.{declare, post, solve, read, wipe}
 use Rattle.search.specs.Calls.Judgement.{passes, declined}
 
@@ -19,51 +19,51 @@ ascending m t (solve b) = omega arith
 ascending m t (read b) = omega arith
 ascending m t wipe = tt
 
-none_below : (rs : List (ℕ × Bool)) (b k : ℕ) → Above b rs → k ≤ b → fits k rs ≡ false
+none_below : (rs : List (ℕ × Bool)) (b k : ℕ) → Above b rs → k ≤ b → reason_fits k rs ≡ false
 none_below [] b k a l = refl
 none_below ((n, f) ∷ rs) b k a l =
-    or_from (eqb k n && f) (fits k rs) (and_left (eqb k n) f (ne_eqb k n (λ e. omega (arith, a.0)))) (none_below rs n k a.1 (omega (arith, a.0)))
+    or_from (eqb k n && f) (reason_fits k rs) (and_left (eqb k n) f (ne_eqb k n (λ e. omega (arith, a.0)))) (none_below rs n k a.1 (omega (arith, a.0)))
 
 -- what a judgement says of the numbers that fit
-abbrev Told : List (ℕ × Bool) → Judgement → Type 0
-Told rs passes = (k : ℕ) → fits k rs ≡ false
-Told rs (declined n) = (fits n rs ≡ true) × ((k : ℕ) → k < n → fits k rs ≡ false)
+abbrev Smallest : List (ℕ × Bool) → Judgement → Type 0
+Smallest rs passes = (k : ℕ) → reason_fits k rs ≡ false
+Smallest rs (declined n) = (reason_fits n rs ≡ true) × ((k : ℕ) → k < n → reason_fits k rs ≡ false)
 
-told_more : (n : ℕ) (rs : List (ℕ × Bool)) (j : Judgement) → Told rs j → Told ((n, false) ∷ rs) j
-told_more n rs passes h = λ k. or_from (eqb k n && false) (fits k rs) (and_right (eqb k n) false refl) (h k)
-told_more n rs (declined i) h = (
-  or_right (eqb i n && false) (fits i rs) h.0,
-  (λ k l. or_from (eqb k n && false) (fits k rs) (and_right (eqb k n) false refl) (h.1 k l)),
+smallest_more : (n : ℕ) (rs : List (ℕ × Bool)) (j : Judgement) → Smallest rs j → Smallest ((n, false) ∷ rs) j
+smallest_more n rs passes h = λ k. or_from (eqb k n && false) (reason_fits k rs) (and_right (eqb k n) false refl) (h k)
+smallest_more n rs (declined i) h = (
+  or_right (eqb i n && false) (reason_fits i rs) h.0,
+  (λ k l. or_from (eqb k n && false) (reason_fits k rs) (and_right (eqb k n) false refl) (h.1 k l)),
 )
 
-told : (rs : List (ℕ × Bool)) (b : ℕ) → Above b rs → Told rs (judge rs)
-told [] b a = λ k. refl
-told ((n, true) ∷ rs) b a = (
-  or_left (eqb n n && true) (fits n rs) (and_from (eqb n n) true (eq-eqb n n refl) refl),
-  (λ k l. or_from (eqb k n && true) (fits k rs) (and_left (eqb k n) true (ne_eqb k n (λ e. omega arith))) (none_below rs n k a.1 (omega arith))),
+smallest : (rs : List (ℕ × Bool)) (b : ℕ) → Above b rs → Smallest rs (judge rs)
+smallest [] b a = λ k. refl
+smallest ((n, true) ∷ rs) b a = (
+  or_left (eqb n n && true) (reason_fits n rs) (and_from (eqb n n) true (eq-eqb n n refl) refl),
+  (λ k l. or_from (eqb k n && true) (reason_fits k rs) (and_left (eqb k n) true (ne_eqb k n (λ e. omega arith))) (none_below rs n k a.1 (omega arith))),
 )
-told ((n, false) ∷ rs) b a = told_more n rs (judge rs) (told rs n a.1)
+smallest ((n, false) ∷ rs) b a = smallest_more n rs (judge rs) (smallest rs n a.1)
 
 -- and only one judgement says it
-told_one : (rs : List (ℕ × Bool)) (i j : Judgement) → Told rs i → Told rs j → i ≡ j
-told_one rs passes passes a b = refl
-told_one rs passes (declined n) a b = absurd (both_ways (fits n rs) (a n) b.0)
-told_one rs (declined n) passes a b = absurd (both_ways (fits n rs) (b n) a.0)
-told_one rs (declined n) (declined k) a b =
+smallest_one : (rs : List (ℕ × Bool)) (i j : Judgement) → Smallest rs i → Smallest rs j → i ≡ j
+smallest_one rs passes passes a b = refl
+smallest_one rs passes (declined n) a b = absurd (both_ways (reason_fits n rs) (a n) b.0)
+smallest_one rs (declined n) passes a b = absurd (both_ways (reason_fits n rs) (b n) a.0)
+smallest_one rs (declined n) (declined k) a b =
     elim (cases_order n k) [
       | inl e ↦ ap declined e
       | inr h ↦ elim h [
-        | inl l ↦ absurd (both_ways (fits n rs) (b.1 n l) a.0)
-        | inr l ↦ absurd (both_ways (fits k rs) (a.1 k l) b.0)
+        | inl l ↦ absurd (both_ways (reason_fits n rs) (b.1 n l) a.0)
+        | inr l ↦ absurd (both_ways (reason_fits k rs) (a.1 k l) b.0)
       ]
     ]
 
 pub refusals_smallest : (m : Meaning) (t : Table) (c : Call)
-    → ((n : ℕ) → (judged m t c ≡ declined n) ↔ ((fits n (reasons m t c) ≡ true) × ((k : ℕ) → k < n → fits k (reasons m t c) ≡ false)))
-    × ((judged m t c ≡ passes) ↔ ((k : ℕ) → fits k (reasons m t c) ≡ false))
+    → ((n : ℕ) → (judged m t c ≡ declined n) ↔ ((reason_fits n (reasons m t c) ≡ true) × ((k : ℕ) → k < n → reason_fits k (reasons m t c) ≡ false)))
+    × ((judged m t c ≡ passes) ↔ ((k : ℕ) → reason_fits k (reasons m t c) ≡ false))
 refusals_smallest m t c =
     let rs = reasons m t c in
-    let h = told rs 0 (ascending m t c) in (
-      (λ n. ((λ e. subst (Told rs) e h), (λ x. told_one rs (judge rs) (declined n) h x))),
-      ((λ e. subst (Told rs) e h), (λ x. told_one rs (judge rs) passes h x)),
+    let h = smallest rs 0 (ascending m t c) in (
+      (λ n. ((λ e. subst (Smallest rs) e h), (λ x. smallest_one rs (judge rs) (declined n) h x))),
+      ((λ e. subst (Smallest rs) e h), (λ x. smallest_one rs (judge rs) passes h x)),
     )

@@ -18,7 +18,7 @@ pub record Turned (m : Meaning) (rows : List Row) (i : ℕ) (r : Row) (s t : Lis
   pub inside : i < length rows
   pub row_is : r ≡ get_or rows i r
   pub left : t ≡ m.turn (row_of r) s
-  pub told : c ≡ changed t s
+  pub paired : c ≡ changed t s
 
 round_step : (m : Meaning) (seen : Bool) (rows : List Row) (i : ℕ) (r : Row) (s t : List ℕ) (c : Bool) → Turned m rows i r s t c
     → round_from m seen (rows_of (drop i rows)) s ≡ after m seen (rows_of (drop (i + 1) rows)) t c
@@ -27,7 +27,7 @@ round_step m seen rows i r s t c w =
     at_drop_more (λ l. round_from m seen (rows_of l) s) rows i r w.inside
     ∙ ap (λ x. turned (m.turn (row_of x) s)) (sym w.row_is)
     ∙ ap turned (sym w.left)
-    ∙ ap (after m seen (rows_of (drop (i + 1) rows)) t) (sym w.told)
+    ∙ ap (after m seen (rows_of (drop (i + 1) rows)) t) (sym w.paired)
   where
     turned : List ℕ → Round
     turned x = after m seen (rows_of (drop (i + 1) rows)) x (changed x s)

@@ -9,7 +9,7 @@ use Rattle.stores.specs.declared.store.Stored.TheVariants.{Kept}
 use Rattle.search.proofs.AnyStore.{any}
 use Rattle.search.specs.Search.{Level, Place, Node, node, level_of, below, child, taken, BacksUp, Opens, Steps}
 use Rattle.search.specs.Propagation.{propagated}
-use Rattle.search.specs.Calls.{Table, Call, Answer, Judgement, over, says, result, Goes, Does}
+use Rattle.search.specs.Calls.{Table, Call, Answer, Judgement, over, place_answer, result, OpensNodes, Does}
 use Rattle.search.specs.CallOutcomes.{SameKeys}
 use Rattle.search.specs.Search.Place.{going, found, none}
 use Rattle.search.specs.Search.Node.{dead, solution, hit, branch}
@@ -97,19 +97,19 @@ module _ (m : Meaning) where
       opens_agree rows (child l) (taken l ∷ ls) v v' s O O' e e'
 
   -- losses only add up
-  goes_lost : {b : ℕ} {t : Table} {v : View} {u : Table} {w : View} → Goes any m b t v u w → t.lost ≤ u.lost
-  goes_lost (Goes.stay t v) = omega arith
-  goes_lost (Goes.more b t u v w x p n k S G) = omega (arith, goes_lost G)
+  goes_lost : {b : ℕ} {t : Table} {v : View} {u : Table} {w : View} → OpensNodes any m b t v u w → t.lost ≤ u.lost
+  goes_lost (OpensNodes.stay t v) = omega arith
+  goes_lost (OpensNodes.more b t u v w x p n k S G) = omega (arith, goes_lost G)
 
-  goes_agree : {i i' : ℕ} {t t' : Table} {v v' : View} {u u' : Table} {w w' : View} → Goes any m i t v u w → Goes any m i' t' v' u' w' → (b : ℕ) → t ≡ t' → SameKeys v v'
+  goes_agree : {i i' : ℕ} {t t' : Table} {v v' : View} {u u' : Table} {w w' : View} → OpensNodes any m i t v u w → OpensNodes any m i' t' v' u' w' → (b : ℕ) → t ≡ t' → SameKeys v v'
       → i ≤ b → i' ≤ b → (over u.place ≡ true) ⊎ (i ≡ b) → (over u'.place ≡ true) ⊎ (i' ≡ b) → u.lost ≤ t.lost → u'.lost ≤ t'.lost → (u ≡ u') × SameKeys w w'
-  goes_agree (Goes.stay t v) (Goes.stay t' v') b q s l l' e e' z z' = (q, s)
-  goes_agree (Goes.stay t v) (Goes.more i' t' u' v' w' x' p' n' k' S' G') b q s l l' e e' z z' =
+  goes_agree (OpensNodes.stay t v) (OpensNodes.stay t' v') b q s l l' e e' z z' = (q, s)
+  goes_agree (OpensNodes.stay t v) (OpensNodes.more i' t' u' v' w' x' p' n' k' S' G') b q s l l' e e' z z' =
       elim e [ inl o ↦ absurd (both_ways (over t'.place) (steps_not_over S') (sym (ap (λ (x : Table). over x.place) q) ∙ o)) | inr o ↦ absurd (omega arith) ]
-  goes_agree (Goes.more i t u v w x p n k S G) (Goes.stay t' v') b q s l l' e e' z z' =
+  goes_agree (OpensNodes.more i t u v w x p n k S G) (OpensNodes.stay t' v') b q s l l' e e' z z' =
       elim e' [ inl o ↦ absurd (both_ways (over t.place) (steps_not_over S) (ap (λ (x : Table). over x.place) q ∙ o)) | inr o ↦ absurd (omega arith) ]
-  goes_agree (Goes.more i t u v w x p n k S G) (Goes.more i' t' u' v' w' x' p' n' k' S' G') zero q s l l' e e' z z' = absurd (omega arith)
-  goes_agree (Goes.more i t u v w x p n k S G) (Goes.more i' t' u' v' w' x' p' n' k' S' G') (suc b) q s l l' e e' z z' =
+  goes_agree (OpensNodes.more i t u v w x p n k S G) (OpensNodes.more i' t' u' v' w' x' p' n' k' S' G') zero q s l l' e e' z z' = absurd (omega arith)
+  goes_agree (OpensNodes.more i t u v w x p n k S G) (OpensNodes.more i' t' u' v' w' x' p' n' k' S' G') (suc b) q s l l' e e' z z' =
       let a = goes_lost G in
       let a' = goes_lost G' in
       let k0 : k ≡ 0 = omega arith in
@@ -151,7 +151,7 @@ module _ (m : Meaning) where
   does_agree t v v' s (Does.solves b u w j S) (Does.declines c n j') z z' = absurd (not_both j' j)
   does_agree t v v' s (Does.solves b u w j S) (Does.solves b' u' w' j' S') z z' =
       let r = goes_agree S.goes S'.goes b refl s S.inside S'.inside S.ends S'.ends z z' in
-      (ap (λ (x : Table). says x.place) r.0, r.0, r.1)
+      (ap (λ (x : Table). place_answer x.place) r.0, r.0, r.1)
   does_agree t v v' s (Does.reads b p j e) (Does.declines c n j') z z' = absurd (not_both j' j)
   does_agree t v v' s (Does.reads b p j e) (Does.reads b' p' j' e') z z' =
       (ap (λ (x : Place). Answer.wrote (length (result x)) (result x ++ drop (length (result x)) b)) (sym e ∙ e'), refl, s)

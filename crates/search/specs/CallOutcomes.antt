@@ -8,7 +8,7 @@ use Rattle.search.specs.Search.{Level, Place, BacksUp, Opens, Steps}
 use Rattle.search.specs.Calls.{Table, Call, Answer, Does}
 
 -- what a call can come to over this store
-pub record Outcome (b : Behaviour) (m : Meaning) (t : Table) (s : b.State) (c : Call) : Type 0 where
+pub record CallOutcome (b : Behaviour) (m : Meaning) (t : Table) (s : b.State) (c : Call) : Type 0 where
   pub answer : Answer
   pub table : Table
   pub state : b.State

@@ -118,26 +118,26 @@ judged m t c = judge (reasons m t c)
 -- ---- Solve
 
 -- so many nodes, one after the other, none of them after the search is over; over a store with the behaviour b, from one state to another
-pub data Goes (b : Behaviour) (m : Meaning) : ℕ → Table → b.State → Table → b.State → Type 0 where
-  stay : (t : Table) (s : b.State) → Goes b m zero t s t s
+pub data OpensNodes (b : Behaviour) (m : Meaning) : ℕ → Table → b.State → Table → b.State → Type 0 where
+  stay : (t : Table) (s : b.State) → OpensNodes b m zero t s t s
   more : (i : ℕ) (t u : Table) (s r x : b.State) (p : Place) (n k : ℕ)
       → Steps b m t.voices t.rows t.place s p r n k
-      → Goes b m i (record { voices = t.voices; rows = t.rows; place = p; opened = t.opened + 1; exhausted = t.exhausted + n; lost = t.lost + k }) r u x
-      → Goes b m (suc i) t s u x
+      → OpensNodes b m i (record { voices = t.voices; rows = t.rows; place = p; opened = t.opened + 1; exhausted = t.exhausted + n; lost = t.lost + k }) r u x
+      → OpensNodes b m (suc i) t s u x
 
 -- a Solve with a budget: at most so many nodes, and fewer only if the search is over
 pub record Solved (b : Behaviour) (m : Meaning) (budget : ℕ) (t : Table) (s : b.State) (u : Table) (r : b.State) : Type 0 where
   pub count : ℕ
   pub inside : count ≤ budget
-  pub goes : Goes b m count t s u r
+  pub goes : OpensNodes b m count t s u r
   pub ends : (over u.place ≡ true) ⊎ (count ≡ budget)
 
 -- what Solve answers when the search then stands here
-abbrev pub says : Place → Answer
-says Place.fresh = stopped
-says (Place.going l ls) = stopped
-says (Place.found p) = found p
-says Place.none = none
+abbrev pub place_answer : Place → Answer
+place_answer Place.fresh = stopped
+place_answer (Place.going l ls) = stopped
+place_answer (Place.found p) = found p
+place_answer Place.none = none
 
 -- ---- what a call does to a table and its store
 
@@ -150,7 +150,7 @@ pub data Does (b : Behaviour) (m : Meaning) (t : Table) (s : b.State) : Call →
   posts : (bs : List ℕ) (r : b.State) → judged m t (post bs) ≡ passes → b.empties s r → Does b m t s (post bs) done (begun t.voices (t.rows ++ (decode m bs ∷ []))) r
   wipes : (r : b.State) → b.empties s r → Does b m t s wipe done empty r
   -- Solve goes on from where the last one stopped
-  solves : (budget : ℕ) (u : Table) (r : b.State) → judged m t (solve budget) ≡ passes → Solved b m budget t s u r → Does b m t s (solve budget) (says u.place) u r
+  solves : (budget : ℕ) (u : Table) (r : b.State) → judged m t (solve budget) ≡ passes → Solved b m budget t s u r → Does b m t s (solve budget) (place_answer u.place) u r
   -- the values at the front of the buffer, and the bytes beyond as they were
   reads : (buffer p : List ℕ) → judged m t (read buffer) ≡ passes → t.place ≡ Place.found p
       → Does b m t s (read buffer) (wrote (length p) (p ++ drop (length p) buffer)) t s

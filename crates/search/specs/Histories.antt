@@ -14,8 +14,8 @@ pub data History (b : Behaviour) (m : Meaning) (g : b.State) : List (Call × Ans
       → History b m g ((c, a) ∷ h) u r
 
 -- the calls of a history
-abbrev pub calls_of : List (Call × Answer) → List Call
-calls_of h = map (λ x. x.0) h
+abbrev pub calls_in : List (Call × Answer) → List Call
+calls_in h = map (λ x. x.0) h
 
 -- a Declare, a Post or a Wipe was accepted
 abbrev pub is_done : Answer → Bool
@@ -27,19 +27,19 @@ is_done Answer.stopped = false
 is_done (Answer.wrote n b) = false
 
 -- the opening sets of the voices that the calls have declared, by calls and answers alone
-abbrev pub declared : List (Call × Answer) → List ℕ
-declared [] = []
-declared ((declare s, a) ∷ h) = cond (is_done a) (declared h ++ (s ∷ [])) (declared h)
-declared ((post bs, a) ∷ h) = declared h
-declared ((solve b, a) ∷ h) = declared h
-declared ((read b, a) ∷ h) = declared h
-declared ((wipe, a) ∷ h) = []
+abbrev pub declared_voices : List (Call × Answer) → List ℕ
+declared_voices [] = []
+declared_voices ((declare s, a) ∷ h) = cond (is_done a) (declared_voices h ++ (s ∷ [])) (declared_voices h)
+declared_voices ((post bs, a) ∷ h) = declared_voices h
+declared_voices ((solve b, a) ∷ h) = declared_voices h
+declared_voices ((read b, a) ∷ h) = declared_voices h
+declared_voices ((wipe, a) ∷ h) = []
 
 -- and the rows that they have posted
-abbrev pub posted : Meaning → List (Call × Answer) → List RowData
-posted m [] = []
-posted m ((declare s, a) ∷ h) = posted m h
-posted m ((post bs, a) ∷ h) = cond (is_done a) (posted m h ++ (decode m bs ∷ [])) (posted m h)
-posted m ((solve b, a) ∷ h) = posted m h
-posted m ((read b, a) ∷ h) = posted m h
-posted m ((wipe, a) ∷ h) = []
+abbrev pub posted_rows : Meaning → List (Call × Answer) → List RowData
+posted_rows m [] = []
+posted_rows m ((declare s, a) ∷ h) = posted_rows m h
+posted_rows m ((post bs, a) ∷ h) = cond (is_done a) (posted_rows m h ++ (decode m bs ∷ [])) (posted_rows m h)
+posted_rows m ((solve b, a) ∷ h) = posted_rows m h
+posted_rows m ((read b, a) ∷ h) = posted_rows m h
+posted_rows m ((wipe, a) ∷ h) = []

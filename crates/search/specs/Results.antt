@@ -12,7 +12,7 @@ use Rattle.search.specs.Limits.{most_voices, most_rows, most_bytes, most_opened}
 use Rattle.search.specs.Propagation.{round, rounds, size}
 use Rattle.search.specs.Search.{Place}
 use Rattle.rows.specs.Placed.{AllHold, Least, Lawless}
-use Rattle.search.specs.Calls.{Table, Answer, over, says}
+use Rattle.search.specs.Calls.{Table, Answer, over, place_answer}
 
 -- ---- propagation
 
@@ -52,7 +52,7 @@ pub record Projects (m : Meaning) (rows : List RowData) (s t : List ℕ) : Type 
 -- ---- a table and its store
 
 -- what a table and its store say, whatever the calls were
-pub record Stands (m : Meaning) (t : Table) (v : View) : Type 0 where
+pub record Invariant (m : Meaning) (t : Table) (v : View) : Type 0 where
   -- what a finished search has found is the least lawful placing; where it has found none, there is none
   pub found_least : (p : List ℕ) → t.place ≡ Place.found p → Least m t.voices t.rows p
   pub none_lawful : t.place ≡ Place.none → Lawless m t.voices t.rows
@@ -80,13 +80,13 @@ pub record Limited (m : Meaning) (t : Table) : Type 0 where
 -- ---- answers
 
 -- what an answer of Solve says of these voices and rows
-abbrev pub Says : Meaning → List ℕ → List RowData → Answer → Type 0
-Says m voices rows Answer.done = ⊥
-Says m voices rows (Answer.refused n) = Unit {0}
-Says m voices rows (Answer.found p) = Least m voices rows p
-Says m voices rows Answer.none = Lawless m voices rows
-Says m voices rows Answer.stopped = Unit {0}
-Says m voices rows (Answer.wrote n b) = ⊥
+abbrev pub SolveMeans : Meaning → List ℕ → List RowData → Answer → Type 0
+SolveMeans m voices rows Answer.done = ⊥
+SolveMeans m voices rows (Answer.refused n) = Unit {0}
+SolveMeans m voices rows (Answer.found p) = Least m voices rows p
+SolveMeans m voices rows Answer.none = Lawless m voices rows
+SolveMeans m voices rows Answer.stopped = Unit {0}
+SolveMeans m voices rows (Answer.wrote n b) = ⊥
 
 -- a result: found and the values, or none
 abbrev pub finished : Answer → Bool
@@ -112,13 +112,13 @@ pub record Budgeted (t : Table) (budget : ℕ) (a : Answer) (u : Table) : Type 0
   pub at_most : u.opened ≤ t.opened + budget
   pub stopped_exactly : (a ≡ Answer.stopped) ↔ ((u.opened ≡ t.opened + budget) × (over u.place ≡ false))
   -- its answer is what it finished with, and no voice or row is altered
-  pub answer : a ≡ says u.place
+  pub answer : a ≡ place_answer u.place
   pub same_voices : u.voices ≡ t.voices
   pub same_rows : u.rows ≡ t.rows
   -- a finished table repeats its result
   pub repeats : over t.place ≡ true → u ≡ t
 
 -- the number n is one of a call's refusals that fit
-abbrev pub fits : ℕ → List (ℕ × Bool) → Bool
-fits n [] = false
-fits n ((k, f) ∷ others) = (n == k && f) || fits n others
+abbrev pub reason_fits : ℕ → List (ℕ × Bool) → Bool
+reason_fits n [] = false
+reason_fits n ((k, f) ∷ others) = (n == k && f) || reason_fits n others

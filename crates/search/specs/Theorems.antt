@@ -8,12 +8,12 @@ use Rattle.stores.specs.Behaviours.{Behaviour}
 use Rattle.search.specs.Propagation.{propagated}
 use Rattle.search.specs.Search.{Place, Level, Steps}
 use Rattle.rows.specs.Placed.{AllAccepted, Lawful, SameLeast}
-use Rattle.search.specs.Calls.{Table, Call, Answer, Judgement, reasons, judged, over, Goes, Does}
+use Rattle.search.specs.Calls.{Table, Call, Answer, Judgement, reasons, judged, over, OpensNodes, Does}
 use Rattle.search.specs.Calls.Call.{solve, read}
-use Rattle.search.specs.Histories.{History, calls_of, declared, posted}
-use Rattle.search.specs.Results.{Propagates, Projects, Stands, Limited, Says, finished, Reads, Budgeted, fits}
+use Rattle.search.specs.Histories.{History, calls_in, declared_voices, posted_rows}
+use Rattle.search.specs.Results.{Propagates, Projects, Invariant, Limited, SolveMeans, finished, Reads, Budgeted, reason_fits}
 use Rattle.search.specs.Branching.{TableLowest, Rising}
-use Rattle.search.specs.CallOutcomes.{Outcome, SameKeys, StepsNew}
+use Rattle.search.specs.CallOutcomes.{CallOutcome, SameKeys, StepsNew}
 
 -- ---- propagation and keys
 
@@ -36,40 +36,40 @@ KeysProject = (m : Meaning) → Laws m → (rows : List RowData) (s t : List ℕ
 -- ---- the search, over a store with the behaviour b, which was in the state g when the table was made
 
 -- What stands after every history: a found result is the least lawful placing, none says that there is none, keys and nodes are counted right.
-abbrev pub SearchStands : Behaviour → Type 0
-SearchStands b = (m : Meaning) → Laws m → (g : b.State) (h : List (Call × Answer)) (t : Table) (s : b.State) → History b m g h t s → Stands m t (b.view s)
+abbrev pub InvariantHolds : Behaviour → Type 0
+InvariantHolds b = (m : Meaning) → Laws m → (g : b.State) (h : List (Call × Answer)) (t : Table) (s : b.State) → History b m g h t s → Invariant m t (b.view s)
 
 -- After every history, and after each node that a Solve then opens: levels and nodes branch on the lowest voice that is not fixed.
 abbrev pub BranchesLowest : Behaviour → Type 0
 BranchesLowest b = (m : Meaning) → Laws m → (g : b.State) (h : List (Call × Answer)) (t : Table) (s : b.State) → History b m g h t s
-    → (n : ℕ) (u : Table) (r : b.State) → Goes b m n t s u r → TableLowest m u (b.view r)
+    → (n : ℕ) (u : Table) (r : b.State) → OpensNodes b m n t s u r → TableLowest m u (b.view r)
 
 -- So much is known of the levels with no law of the bank: the voices ascend strictly, and each is one of its node's.
 abbrev pub LevelsRise : Behaviour → Type 0
 LevelsRise b = (m : Meaning) (g : b.State) (h : List (Call × Answer)) (t : Table) (s : b.State) → History b m g h t s
-    → (n : ℕ) (u : Table) (r : b.State) → Goes b m n t s u r → (l : Level) (ls : List Level) → u.place ≡ Place.going l ls → Rising (l ∷ ls)
+    → (n : ℕ) (u : Table) (r : b.State) → OpensNodes b m n t s u r → (l : Level) (ls : List Level) → u.place ≡ Place.going l ls → Rising (l ∷ ls)
 
 -- A key that goes to the store when a node is exhausted is not held already, at every node that a Solve opens after any history.
 abbrev pub NeverTwice : Behaviour → Type 0
 NeverTwice b = (m : Meaning) → Laws m → (g : b.State) (h : List (Call × Answer)) (t : Table) (s : b.State) → History b m g h t s
-    → (n : ℕ) (u : Table) (r : b.State) → Goes b m n t s u r
+    → (n : ℕ) (u : Table) (r : b.State) → OpensNodes b m n t s u r
     → (p : Place) (x : b.State) (i k : ℕ) (S : Steps b m u.voices u.rows u.place r p x i k) → StepsNew S
 
 -- ---- answers
 
 -- Wherever in a history Solve answered: found p, then p is the least lawful placing of the voices and rows given before it; none, then there is none.
-abbrev pub AnswersStand : Behaviour → Type 0
-AnswersStand b = (m : Meaning) → Laws m → (g : b.State) (later before : List (Call × Answer)) (budget : ℕ) (a : Answer) (t : Table) (s : b.State)
-    → History b m g (later ++ ((solve budget, a) ∷ before)) t s → Says m (declared before) (posted m before) a
+abbrev pub AnswersHold : Behaviour → Type 0
+AnswersHold b = (m : Meaning) → Laws m → (g : b.State) (later before : List (Call × Answer)) (budget : ℕ) (a : Answer) (t : Table) (s : b.State)
+    → History b m g (later ++ ((solve budget, a) ∷ before)) t s → SolveMeans m (declared_voices before) (posted_rows m before) a
 
 -- Wherever Read wrote: the least lawful placing of the voices and rows given before it.
-abbrev pub ReadsStand : Behaviour → Type 0
-ReadsStand b = (m : Meaning) → Laws m → (g : b.State) (later before : List (Call × Answer)) (buffer : List ℕ) (n : ℕ) (left : List ℕ) (t : Table) (s : b.State)
-    → History b m g (later ++ ((read buffer, Answer.wrote n left) ∷ before)) t s → Reads m (declared before) (posted m before) buffer n left
+abbrev pub ReadsHold : Behaviour → Type 0
+ReadsHold b = (m : Meaning) → Laws m → (g : b.State) (later before : List (Call × Answer)) (buffer : List ℕ) (n : ℕ) (left : List ℕ) (t : Table) (s : b.State)
+    → History b m g (later ++ ((read buffer, Answer.wrote n left) ∷ before)) t s → Reads m (declared_voices before) (posted_rows m before) buffer n left
 
 -- A table's voices and rows are those that its calls have given.
 abbrev pub TablesGiven : Behaviour → Type 0
-TablesGiven b = (m : Meaning) (g : b.State) (h : List (Call × Answer)) (t : Table) (s : b.State) → History b m g h t s → (t.voices ≡ declared h) × (t.rows ≡ posted m h)
+TablesGiven b = (m : Meaning) (g : b.State) (h : List (Call × Answer)) (t : Table) (s : b.State) → History b m g h t s → (t.voices ≡ declared_voices h) × (t.rows ≡ posted_rows m h)
 
 -- Two results of Solve, anywhere in two histories over any banks and stores, are equal exactly when the two tables have the same least lawful placing or
 -- neither has any.
@@ -77,7 +77,7 @@ abbrev pub ResultsAgree : Behaviour → Behaviour → Type 0
 ResultsAgree b b' = (m m' : Meaning) → Laws m → Laws m' → (g : b.State) (g' : b'.State) (later later' h h' : List (Call × Answer)) (budget budget' : ℕ) (a a' : Answer)
     (t t' : Table) (s : b.State) (s' : b'.State)
     → History b m g (later ++ ((solve budget, a) ∷ h)) t s → History b' m' g' (later' ++ ((solve budget', a') ∷ h')) t' s' → finished a ≡ true → finished a' ≡ true
-    → (a ≡ a') ↔ SameLeast m (declared h) (posted m h) m' (declared h') (posted m' h')
+    → (a ≡ a') ↔ SameLeast m (declared_voices h) (posted_rows m h) m' (declared_voices h') (posted_rows m' h')
 
 -- An accepted Solve opens at most its budget, and says stopped exactly when it opened that many and the search is not over.
 abbrev pub SolveKeepsBudget : Behaviour → Type 0
@@ -87,25 +87,25 @@ SolveKeepsBudget b = (m : Meaning) (t : Table) (s : b.State) (budget : ℕ) (a :
 -- A call is declined under the smallest number that fits, and passes exactly when none does.
 abbrev pub RefusalsSmallest : Type 0
 RefusalsSmallest = (m : Meaning) (t : Table) (c : Call)
-    → ((n : ℕ) → (judged m t c ≡ Judgement.declined n) ↔ ((fits n (reasons m t c) ≡ true) × ((k : ℕ) → k < n → fits k (reasons m t c) ≡ false)))
-    × ((judged m t c ≡ Judgement.passes) ↔ ((k : ℕ) → fits k (reasons m t c) ≡ false))
+    → ((n : ℕ) → (judged m t c ≡ Judgement.declined n) ↔ ((reason_fits n (reasons m t c) ≡ true) × ((k : ℕ) → k < n → reason_fits k (reasons m t c) ≡ false)))
+    × ((judged m t c ≡ Judgement.passes) ↔ ((k : ℕ) → reason_fits k (reasons m t c) ≡ false))
 
 -- No history passes the limits of a table.
-abbrev pub LimitsStand : Behaviour → Type 0
-LimitsStand b = (m : Meaning) (g : b.State) (h : List (Call × Answer)) (t : Table) (s : b.State) → History b m g h t s → Limited m t
+abbrev pub LimitsHold : Behaviour → Type 0
+LimitsHold b = (m : Meaning) (g : b.State) (h : List (Call × Answer)) (t : Table) (s : b.State) → History b m g h t s → Limited m t
 
 -- ---- stores
 
 -- Over a store of which nothing is open, every call comes to something, and to one thing only.
 abbrev pub OneOutcome : Behaviour → Type 0
 OneOutcome b = (m : Meaning) (t : Table) (s : b.State) (c : Call)
-    → Outcome b m t s c × ((x y : Outcome b m t s c) → (x.answer ≡ y.answer) × (x.table ≡ y.table) × (x.state ≡ y.state))
+    → CallOutcome b m t s c × ((x y : CallOutcome b m t s c) → (x.answer ≡ y.answer) × (x.table ≡ y.table) × (x.state ≡ y.state))
 
 -- So any two histories with the same calls, over such a store in the same state, have the same answers and lead to the same table, counts and all, and the same
 -- state of the store.
 abbrev pub OneHistory : Behaviour → Type 0
 OneHistory b = (m : Meaning) (g : b.State) (h h' : List (Call × Answer)) (t t' : Table) (s s' : b.State) → History b m g h t s → History b m g h' t' s'
-    → calls_of h ≡ calls_of h' → (h ≡ h') × (t ≡ t') × (s ≡ s')
+    → calls_in h ≡ calls_in h' → (h ≡ h') × (t ≡ t') × (s ≡ s')
 
 -- Over any two stores that hold the same keys and lose none in this call, a call has the same answer and leaves the same table, counts and all, and the
 -- same keys. (A call other than Solve loses none.)

@@ -39,14 +39,14 @@ enum RoundEnd {
 
 // Each row has a turn in order, until one empties a set. Where none has changed a set yet, the rows from `quiet` on need none: theirs left these sets as they
 // are. Another round is due where some turn changed a set and none emptied one.
-fn run_round<B: Bank>(rows: &[Row], sets: &mut [ValueSet], quiet: usize) -> RoundEnd
-    ensures done { Ready B.Bank.meaning (rows_of rows.now) sets.old → Stable B.Bank.meaning (rows_of (drop quiet rows.now)) sets.old
+fn run_round<B: Bank>(rows: &[Row], sets: &mut [ValueSet], stable: usize) -> RoundEnd
+    ensures done { Ready B.Bank.meaning (rows_of rows.now) sets.old → Stable B.Bank.meaning (rows_of (drop stable rows.now)) sets.old
         → RoundDone B.Bank.meaning rows.now sets.old (due_of result) sets.new }
-    ensures emptied { Ready B.Bank.meaning (rows_of rows.now) sets.old → Stable B.Bank.meaning (rows_of (drop quiet rows.now)) sets.old
+    ensures emptied { Ready B.Bank.meaning (rows_of rows.now) sets.old → Stable B.Bank.meaning (rows_of (drop stable rows.now)) sets.old
         → is_emptied result ≡ some_empty sets.new }
 {
     let mut next = RoundEnd::Settled;
-    let mut end = quiet;
+    let mut end = stable;
     for (i, row) in rows.iter().enumerate() {
         if i == end {
             break;
@@ -67,12 +67,12 @@ pub fn propagate<B: Bank>(rows: &[Row], sets: &mut [ValueSet]) -> bool
     ensures after { Ready B.Bank.meaning (rows_of rows.now) sets.old → sets.new ≡ propagated B.Bank.meaning (rows_of rows.now) sets.old }
     ensures value { Ready B.Bank.meaning (rows_of rows.now) sets.old → result ≡ some_empty sets.new }
 {
-    let mut quiet = rows.len();
+    let mut stable = rows.len();
     for _ in 0..=MOST_VALUES * sets.len() as u128 {
-        match run_round::<B>(rows, sets, quiet) {
+        match run_round::<B>(rows, sets, stable) {
             RoundEnd::Emptied => return true,
             RoundEnd::Settled => return false,
-            RoundEnd::Due(rest) => quiet = rest,
+            RoundEnd::Due(rest) => stable = rest,
         }
     }
     false

@@ -1,8 +1,8 @@
 // What is proved of the search and of the calls, over every bank and every behaviour of a store.
 ghost use Rattle.search.specs.Theorems.{PropagationSound, FixedSolves, KeysProject};
-ghost use Rattle.search.specs.Theorems.{SearchStands, BranchesLowest, LevelsRise, NeverTwice};
-ghost use Rattle.search.specs.Theorems.{AnswersStand, ReadsStand, TablesGiven, ResultsAgree};
-ghost use Rattle.search.specs.Theorems.{SolveKeepsBudget, RefusalsSmallest, LimitsStand};
+ghost use Rattle.search.specs.Theorems.{InvariantHolds, BranchesLowest, LevelsRise, NeverTwice};
+ghost use Rattle.search.specs.Theorems.{AnswersHold, ReadsHold, TablesGiven, ResultsAgree};
+ghost use Rattle.search.specs.Theorems.{SolveKeepsBudget, RefusalsSmallest, LimitsHold};
 ghost use Rattle.search.specs.Theorems.{OneOutcome, OneHistory, StoresAgree};
 ghost use Rattle.stores.specs.Behaviours.{Behaviour, Decided};
 ghost use Rattle.stores.specs.Bare.{bare};
@@ -29,8 +29,8 @@ pub fn keys_project()
 {}
 
 // After every history: what was found is the least lawful placing, and none says that there is none.
-pub fn search_stands<S: Behaves>()
-    ensures { SearchStands S.Behaves.behaviour }
+pub fn invariant_holds<S: Behaves>()
+    ensures { InvariantHolds S.Behaves.behaviour }
 {}
 
 // Every node branches on its lowest voice that is not fixed.
@@ -49,13 +49,13 @@ pub fn never_twice<S: Behaves>()
 {}
 
 // Each answer of Solve in a history says what is so of the voices and rows given before it.
-pub fn answers_stand<S: Behaves>()
-    ensures { AnswersStand S.Behaves.behaviour }
+pub fn answers_hold<S: Behaves>()
+    ensures { AnswersHold S.Behaves.behaviour }
 {}
 
 // What Read wrote is the least lawful placing, and the rest of the buffer is as it was.
-pub fn reads_stand<S: Behaves>()
-    ensures { ReadsStand S.Behaves.behaviour }
+pub fn reads_hold<S: Behaves>()
+    ensures { ReadsHold S.Behaves.behaviour }
 {}
 
 // A table has the voices and rows that its calls have given.
@@ -79,8 +79,8 @@ pub fn refusals_smallest()
 {}
 
 // No history passes the limits of a table.
-pub fn limits_stand<S: Behaves>()
-    ensures { LimitsStand S.Behaves.behaviour }
+pub fn limits_hold<S: Behaves>()
+    ensures { LimitsHold S.Behaves.behaviour }
 {}
 
 // Over a store of which nothing is open every call comes to something, and to one thing only.

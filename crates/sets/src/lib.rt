@@ -101,6 +101,6 @@ pub fn take_least(set: &mut ValueSet) -> Option<u32>
 }
 
 // The laws of membership stand.
-pub fn laws_stand()
+pub fn set_laws_hold()
     ensures { SetLaws }
 {}

@@ -8,24 +8,24 @@ use Rattle.search.specs.Calls.{Table, empty, begun, Call, Answer, Does}
 use Rattle.search.specs.Calls.Call.{wipe}
 use Rattle.search.specs.Calls.Answer.{done}
 use Rattle.search.specs.Histories.{History}
-use Rattle.search.specs.Results.{Limited, Stands}
+use Rattle.search.specs.Results.{Limited, Invariant}
 use Rattle.search.proofs.AnyStore.{history_any}
 use Rattle.search.proofs.HistoryFacts.{fit}
-use Rattle.search.proofs.OverEvery.{search_stands, limits_stand}
+use Rattle.search.proofs.OverEvery.{invariant_holds, limits_hold}
 use Rattle.sheets.specs.declared.fault.SheetFault.{SheetFault}
 use Rattle.sheets.specs.Sheets.{sheet}
-use Rattle.sheets.specs.Reading.{Outcome, read_sheet, table_after}
-use Rattle.sheets.specs.Reading.Outcome.{accepted, refused}
-use Rattle.sheets.specs.Laws.{SheetsStand, declared_after, posted_after}
-use Rattle.sheets.specs.Loading.{load_answer, outcome_answer, LoadLeaves, FillHistory, LoadHistory, LoadLasts, LoadBack, RecordsRead}
-use Rattle.sheets.proofs.Told.{Told, told}
+use Rattle.sheets.specs.Reading.{SheetReading, read_sheet, table_after}
+use Rattle.sheets.specs.Reading.SheetReading.{accepted, refused}
+use Rattle.sheets.specs.Laws.{SheetLawsHold, declared_after, posted_after}
+use Rattle.sheets.specs.Loading.{load_answer, reading_answer, LoadLeaves, FillHistory, LoadHistory, LoadExtends, LoadBack, RecordsRead}
+use Rattle.sheets.proofs.Loaded.{ReadRight, read_right}
 use Rattle.sheets.proofs.Saved.{saved_loads}
 
-pub sheets_stand : (m : Meaning) → Laws m → SheetsStand m
-sheets_stand m L = record {
+pub sheet_laws_hold : (m : Meaning) → Laws m → SheetLawsHold m
+sheet_laws_hold m L = record {
   saved_loads = saved_loads m L;
-  loaded_saves = λ bs b voices rows e. subst (Told m L bs) e (told m L bs b);
-  first_fault = λ bs b number place layer e. subst (Told m L bs) e (told m L bs b);
+  loaded_saves = λ bs b voices rows e. subst (ReadRight m L bs) e (read_right m L bs b);
+  first_fault = λ bs b number place layer e. subst (ReadRight m L bs) e (read_right m L bs b);
 }
 
 -- ---- after any calls
@@ -39,20 +39,20 @@ pub record Loaded (b : Behaviour) (m : Meaning) (bs : List ℕ) (s w : b.State) 
   pub accepted : is_err res ≡ false → (u ≡ x) × (r ≡ y)
 
 module _ (b : Behaviour) (m : Meaning) (L : Laws m) (bs : List ℕ) {s w y r : b.State} {x u : Table} {res : Result (Unit {0}) SheetFault} (l : Loaded b m bs s w x y res u r) where
-  answer_by : {o : Outcome} (res' : Result (Unit {0}) SheetFault) → RecordsRead b m bs w x y o res' → load_answer res' ≡ outcome_answer o
+  answer_by : {o : SheetReading} (res' : Result (Unit {0}) SheetFault) → RecordsRead b m bs w x y o res' → load_answer res' ≡ reading_answer o
   answer_by res' (RecordsRead.ended voices rows e f) = refl
   answer_by res' (RecordsRead.faulted cause place first e f) = refl
 
-  pub answers : load_answer res ≡ outcome_answer (read_sheet m bs)
+  pub answers : load_answer res ≡ reading_answer (read_sheet m bs)
   answers = answer_by res l.read
 
-  table_by : {o : Outcome} (res' : Result (Unit {0}) SheetFault) → RecordsRead b m bs w x y o res' → (is_err res' ≡ true → (u ≡ empty) × b.empties y r)
+  table_by : {o : SheetReading} (res' : Result (Unit {0}) SheetFault) → RecordsRead b m bs w x y o res' → (is_err res' ≡ true → (u ≡ empty) × b.empties y r)
       → (is_err res' ≡ false → (u ≡ x) × (r ≡ y)) → u ≡ table_after o
   table_by res' (RecordsRead.ended voices rows e f) d a = (a refl).0 ∙ e
   table_by res' (RecordsRead.faulted cause place first e f) d a = (d refl).0
 
   -- after the calls h, which led to the empty table that the records fill
-  filled_by : {o : Outcome} (res' : Result (Unit {0}) SheetFault) → RecordsRead b m bs w x y o res' → (is_err res' ≡ true → (u ≡ empty) × b.empties y r)
+  filled_by : {o : SheetReading} (res' : Result (Unit {0}) SheetFault) → RecordsRead b m bs w x y o res' → (is_err res' ≡ true → (u ≡ empty) × b.empties y r)
       → (is_err res' ≡ false → (u ≡ x) × (r ≡ y)) → (g : b.State) (h : List (Call × Answer)) → History b m g h empty w → FillHistory b m g h bs o u r
   filled_by res' (RecordsRead.ended voices rows e f) d a g h H =
       subst₂ (λ (z : Table) (q : b.State). History b m g (posted_after (declared_after h voices) rows) z q) (sym ((a refl).0 ∙ e)) (sym (a refl).1) (f g h H)
@@ -66,25 +66,25 @@ module _ (b : Behaviour) (m : Meaning) (L : Laws m) (bs : List ℕ) {s w y r : b
   filled : (g : b.State) (h : List (Call × Answer)) → History b m g h empty w → FillHistory b m g h bs (read_sheet m bs) u r
   filled g h H = filled_by res l.read l.declined l.accepted g h H
 
-  stands_by : (o : Outcome) (g : b.State) (h : List (Call × Answer)) → FillHistory b m g h bs o u r → Stands m u (b.view r)
-  stands_by (accepted voices rows) g h H = search_stands b m L g (posted_after (declared_after h voices) rows) u r H
-  stands_by (refused number place layer) g h H = search_stands b m L g ((wipe, done) ∷ posted_after (declared_after h H.0.voices) H.0.rows) u r H.1
+  invariant_by : (o : SheetReading) (g : b.State) (h : List (Call × Answer)) → FillHistory b m g h bs o u r → Invariant m u (b.view r)
+  invariant_by (accepted voices rows) g h H = invariant_holds b m L g (posted_after (declared_after h voices) rows) u r H
+  invariant_by (refused number place layer) g h H = invariant_holds b m L g ((wipe, done) ∷ posted_after (declared_after h H.0.voices) H.0.rows) u r H.1
 
   pub leaves : LoadLeaves b m bs s u r
   leaves =
       let history = filled s [] (History.made w l.wiped) in
-      record { table = table_by res l.read l.declined l.accepted; history = history; stands = stands_by (read_sheet m bs) s [] history }
+      record { table = table_by res l.read l.declined l.accepted; history = history; invariant = invariant_by (read_sheet m bs) s [] history }
 
-  pub lasts : (t : ℕ → Table) → LoadLasts b m t s bs u r
-  lasts t =
+  pub history : (t : ℕ → Table) → LoadExtends b m t s bs u r
+  history t =
       let history : (g : b.State) (h : List (Call × Answer)) (j : ℕ) → History b m g h (t j) s → LoadHistory b m g h bs (read_sheet m bs) u r =
       λ g h j H. filled g ((wipe, done) ∷ h) (History.then h (t j) empty s w wipe done H tt (Does.wipes w l.wiped)) in
-      record { history = history; stands = λ g h j H. stands_by (read_sheet m bs) g ((wipe, done) ∷ h) (history g h j H) }
+      record { history = history; invariant = λ g h j H. invariant_by (read_sheet m bs) g ((wipe, done) ∷ h) (history g h j H) }
 
 -- ---- loaded and saved, saved and loaded
 
-back : (m : Meaning) → Laws m → (bs : List ℕ) → Bytes bs → (u : Table) (o : Outcome) → read_sheet m bs ≡ o → u ≡ table_after o → LoadBack o bs (sheet u.voices u.rows)
-back m L bs b u (accepted voices rows) e f = ap (λ (x : Table). sheet x.voices x.rows) f ∙ ((sheets_stand m L).loaded_saves bs b voices rows e).1
+back : (m : Meaning) → Laws m → (bs : List ℕ) → Bytes bs → (u : Table) (o : SheetReading) → read_sheet m bs ≡ o → u ≡ table_after o → LoadBack o bs (sheet u.voices u.rows)
+back m L bs b u (accepted voices rows) e f = ap (λ (x : Table). sheet x.voices x.rows) f ∙ ((sheet_laws_hold m L).loaded_saves bs b voices rows e).1
 back m L bs b u (refused number place layer) e f = tt
 
 pub loads_back : (m : Meaning) → Laws m → (bs : List ℕ) → Bytes bs → (u : Table) → u ≡ table_after (read_sheet m bs) → LoadBack (read_sheet m bs) bs (sheet u.voices u.rows)
@@ -96,4 +96,4 @@ begun_limited m t l = record { voices = l.voices; sets = l.sets; rows = l.rows; 
 pub saves_again : (b : Behaviour) (m : Meaning) → Laws m → (t : Table) (v g : b.State) (h : List (Call × Answer)) → History b m g h t v
     → read_sheet m (sheet t.voices t.rows) ≡ accepted t.voices t.rows
 saves_again b m L t v g h H =
-    saved_loads m L t.voices t.rows (record { limited = begun_limited m t (limits_stand b m g h t v H); all_accepted = (fit m L (history_any b m H)).okay })
+    saved_loads m L t.voices t.rows (record { limited = begun_limited m t (limits_hold b m g h t v H); all_accepted = (fit m L (history_any b m H)).okay })

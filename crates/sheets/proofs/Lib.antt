@@ -1,6 +1,6 @@
 pub mod Numbers
 pub mod Items
-pub mod Told
+pub mod Loaded
 pub mod Steps
 pub mod Saved
 pub mod LawsHold

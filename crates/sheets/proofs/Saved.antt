@@ -16,7 +16,7 @@ use Rattle.table.proofs.Judging.{voice_fits}
 use Rattle.sheets.specs.Sheets.{low_first, number_in, voice_record, voice_records, row_records, sheet}
 use Rattle.sheets.specs.Reading.{if_passes, front_row, item_at, read_on, read_from, read_sheet}
 use Rattle.sheets.specs.Reading.Item.{voice, row}
-use Rattle.sheets.specs.Reading.Outcome.{accepted}
+use Rattle.sheets.specs.Reading.SheetReading.{accepted}
 use Rattle.sheets.specs.Laws.{Holdable}
 use Rattle.sheets.proofs.Numbers.{number_of_low_first, length_low_first}
 use Rattle.sheets.proofs.Items.{whole_voice, at_voice, at_row}

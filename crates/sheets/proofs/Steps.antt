@@ -13,13 +13,13 @@ use Rattle.table.specs.Refusals.{refusal_number}
 use Rattle.sheets.specs.declared.fault.Cause.{Cause}
 use Rattle.sheets.specs.declared.fault.Cause.TheVariants.{Declined}
 use Rattle.sheets.specs.Causes.{cause_number, cause_layer, cause_offset}
-use Rattle.sheets.specs.Reading.{Item, if_passes, item_at, Outcome, read_from, read_on, read_sheet}
+use Rattle.sheets.specs.Reading.{Item, if_passes, item_at, SheetReading, read_from, read_on, read_sheet}
 use Rattle.sheets.specs.Reading.Item.{last, voice, row, fault}
-use Rattle.sheets.specs.Reading.Outcome.{refused}
+use Rattle.sheets.specs.Reading.SheetReading.{refused}
 use Rattle.sheets.specs.Loading.{Step, step_of, item_step, item_table, Unsearched, ItemStored, ItemRead, Fills, RecordsRead}
 use Rattle.sheets.specs.Loading.Step.{ends, goes, fails}
 use Rattle.sheets.proofs.Items.{voice_here, row_here}
-use Rattle.sheets.proofs.Told.{ReadSo, BareRead, none_read, one_voice, one_row, fault_at, some_row}
+use Rattle.sheets.proofs.Loaded.{ReadSo, BareRead, none_read, one_voice, one_row, fault_at, some_row}
 
 -- ---- a record whose call was made
 
@@ -175,7 +175,7 @@ module _ (b : Behaviour) (m : Meaning) (bs : List ℕ) (w : b.State) (t : Table)
           → RecordsRead b m bs w u x (read_sheet m bs) (Ok tt)
       by last e f g k =
           let rest = on last e in
-          subst (λ (o : Outcome). RecordsRead b m bs w u x o (Ok tt)) rest.2
+          subst (λ (o : SheetReading). RecordsRead b m bs w u x o (Ok tt)) rest.2
           (RecordsRead.ended t.voices t.rows g (subst (Fills b m w t.voices t.rows) (sym k) S.read.fills))
       by (voice s) e f g k = let z : ◌≡◌ {A = ℕ} 0 1 = cc in absurd (omega arith)
       by (row r) e f g k = let z : ◌≡◌ {A = ℕ} 0 1 = cc in absurd (omega arith)
@@ -200,7 +200,7 @@ module _ (b : Behaviour) (m : Meaning) (bs : List ℕ) (w : b.State) (t : Table)
           RecordsRead.faulted cause (at + cause_offset cause) first g (subst (Fills b m w t.voices t.rows) (sym k) S.read.fills) in
           let come : refused (cause_number cause) (at + cause_offset cause) (cause_layer cause) ≡ read_sheet m bs =
           ap (read_on m (read_from m rest.0) at t.voices t.rows (drop at bs)) (sym is) ∙ rest.2 in
-          subst₂ (λ (o : Outcome) (q : ℕ). RecordsRead b m bs w u x o (Err (record { cause = cause; place = q }))) come (sym p) here
+          subst₂ (λ (o : SheetReading) (q : ℕ). RecordsRead b m bs w u x o (Err (record { cause = cause; place = q }))) come (sym p) here
         where
           back : Step → Item
           back ends = last

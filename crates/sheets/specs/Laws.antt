@@ -11,7 +11,7 @@ use Rattle.search.specs.Results.{Limited}
 use Rattle.sheets.specs.declared.fault.Layer.{Layer}
 use Rattle.sheets.specs.Sheets.{records, sheet}
 use Rattle.sheets.specs.Reading.{Item, item_at, read_sheet}
-use Rattle.sheets.specs.Reading.Outcome.{accepted, refused}
+use Rattle.sheets.specs.Reading.SheetReading.{accepted, refused}
 
 -- voices and rows that a table can have: within its limits, and the bank accepts each row
 pub record Holdable (m : Meaning) (voices : List ℕ) (rows : List RowData) : Type 0 where
@@ -32,7 +32,7 @@ pub record FirstFault (m : Meaning) (bs : List ℕ) (number place : ℕ) (layer 
 
 -- One sheet a table: the sheet of voices and rows that a table can have is accepted, and gives them back; an accepted sheet is the one of its voices and
 -- rows, which a table can have; and every other sheet is declined at its first fault.
-pub record SheetsStand (m : Meaning) : Type 0 where
+pub record SheetLawsHold (m : Meaning) : Type 0 where
   pub saved_loads : (voices : List ℕ) (rows : List RowData) → Holdable m voices rows → read_sheet m (sheet voices rows) ≡ accepted voices rows
   pub loaded_saves : (bs : List ℕ) → Bytes bs → (voices : List ℕ) (rows : List RowData) → read_sheet m bs ≡ accepted voices rows
       → Holdable m voices rows × (sheet voices rows ≡ bs)
@@ -40,7 +40,7 @@ pub record SheetsStand (m : Meaning) : Type 0 where
       → FirstFault m bs number place layer
 
 abbrev pub OneSheetATable : Type 0
-OneSheetATable = (m : Meaning) → Laws m → SheetsStand m
+OneSheetATable = (m : Meaning) → Laws m → SheetLawsHold m
 
 -- ---- the calls that a Load stands for, with their answers, newest first, after those of h
 

@@ -7,14 +7,14 @@ use Rattle.search.specs.Calls.{Table, Call, Answer, begun, empty}
 use Rattle.search.specs.Calls.Call.{wipe}
 use Rattle.search.specs.Calls.Answer.{done}
 use Rattle.search.specs.Histories.{History}
-use Rattle.search.specs.Results.{Stands}
+use Rattle.search.specs.Results.{Invariant}
 use Rattle.sheets.specs.declared.fault.Cause.{Cause}
 use Rattle.sheets.specs.declared.fault.Layer.{Layer}
 use Rattle.sheets.specs.declared.fault.SheetFault.{SheetFault}
 use Rattle.sheets.specs.Causes.{cause_number, cause_layer, cause_offset}
-use Rattle.sheets.specs.Reading.{Item, Outcome, read_sheet, table_after}
+use Rattle.sheets.specs.Reading.{Item, SheetReading, read_sheet, table_after}
 use Rattle.sheets.specs.Reading.Item.{last, voice, row, fault}
-use Rattle.sheets.specs.Reading.Outcome.{accepted, refused}
+use Rattle.sheets.specs.Reading.SheetReading.{accepted, refused}
 use Rattle.sheets.specs.Laws.{FirstFault, declared_after, posted_after}
 
 -- ---- answers
@@ -30,21 +30,21 @@ load_answer (Ok x) = loaded
 load_answer (Err f) = declined (cause_number f.cause) f.place (cause_layer f.cause)
 
 -- the answer that a sheet must have
-abbrev pub outcome_answer : Outcome → LoadAnswer
-outcome_answer (accepted voices rows) = loaded
-outcome_answer (refused number place layer) = declined number place layer
+abbrev pub reading_answer : SheetReading → LoadAnswer
+reading_answer (accepted voices rows) = loaded
+reading_answer (refused number place layer) = declined number place layer
 
 -- ---- what a Load leaves
 
 -- After the calls h, over a store that was in the state g when the table was made, the records of a sheet that comes to this have led to the table u and the state r: by its
 -- Declares and Posts, all accepted; where it is declined, by those of the records before the first fault, and a Wipe.
-abbrev pub FillHistory : (b : Behaviour) (m : Meaning) (g : b.State) (h : List (Call × Answer)) (bytes : List ℕ) → Outcome → Table → b.State → Type 0
+abbrev pub FillHistory : (b : Behaviour) (m : Meaning) (g : b.State) (h : List (Call × Answer)) (bytes : List ℕ) → SheetReading → Table → b.State → Type 0
 FillHistory b m g h bytes (accepted voices rows) u r = History b m g (posted_after (declared_after h voices) rows) u r
 FillHistory b m g h bytes (refused number place layer) u r =
     (first : FirstFault m bytes number place layer) × History b m g ((wipe, done) ∷ posted_after (declared_after h first.voices) first.rows) u r
 
 -- a Load is a Wipe, and then these
-abbrev pub LoadHistory : (b : Behaviour) (m : Meaning) (g : b.State) (h : List (Call × Answer)) (bytes : List ℕ) → Outcome → Table → b.State → Type 0
+abbrev pub LoadHistory : (b : Behaviour) (m : Meaning) (g : b.State) (h : List (Call × Answer)) (bytes : List ℕ) → SheetReading → Table → b.State → Type 0
 LoadHistory b m g h = FillHistory b m g ((wipe, done) ∷ h)
 
 -- Whatever the table was, over its store in the state s: it is that of the sheet's voices and rows, or an empty one, its search not begun; and it stands with its store as
@@ -52,15 +52,15 @@ LoadHistory b m g h = FillHistory b m g ((wipe, done) ∷ h)
 pub record LoadLeaves (b : Behaviour) (m : Meaning) (bytes : List ℕ) (s : b.State) (u : Table) (r : b.State) : Type 0 where
   pub table : u ≡ table_after (read_sheet m bytes)
   pub history : FillHistory b m s [] bytes (read_sheet m bytes) u r
-  pub stands : Stands m u (b.view r)
+  pub invariant : Invariant m u (b.view r)
 
 -- Whatever the calls were that led to the table t and the state s: so it is then; and what stands after every history stands.
-pub record LoadLasts (b : Behaviour) (m : Meaning) (t : ℕ → Table) (s : b.State) (bytes : List ℕ) (u : Table) (r : b.State) : Type 0 where
+pub record LoadExtends (b : Behaviour) (m : Meaning) (t : ℕ → Table) (s : b.State) (bytes : List ℕ) (u : Table) (r : b.State) : Type 0 where
   pub history : (g : b.State) (h : List (Call × Answer)) (j : ℕ) → History b m g h (t j) s → LoadHistory b m g h bytes (read_sheet m bytes) u r
-  pub stands : (g : b.State) (h : List (Call × Answer)) (j : ℕ) → History b m g h (t j) s → Stands m u (b.view r)
+  pub invariant : (g : b.State) (h : List (Call × Answer)) (j : ℕ) → History b m g h (t j) s → Invariant m u (b.view r)
 
 -- `saved` is the sheet of the table then: where the bytes are accepted, it is these bytes
-abbrev pub LoadBack : Outcome → List ℕ → List ℕ → Type 0
+abbrev pub LoadBack : SheetReading → List ℕ → List ℕ → Type 0
 LoadBack (accepted voices rows) bytes saved = saved ≡ bytes
 LoadBack (refused number place layer) bytes saved = Unit {0}
 
@@ -114,7 +114,7 @@ Fills b m s voices rows r =
     (g : b.State) (h : List (Call × Answer)) → History b m g h empty s → History b m g (posted_after (declared_after h voices) rows) (begun voices rows) r
 
 -- all records are read, up to the sheet's end or its first fault
-pub data RecordsRead (b : Behaviour) (m : Meaning) (bytes : List ℕ) (s : b.State) (u : Table) (r : b.State) : Outcome → Result Unit SheetFault → Type 0 where
+pub data RecordsRead (b : Behaviour) (m : Meaning) (bytes : List ℕ) (s : b.State) (u : Table) (r : b.State) : SheetReading → Result Unit SheetFault → Type 0 where
   ended : (voices : List ℕ) (rows : List RowData) → u ≡ begun voices rows → Fills b m s voices rows r → RecordsRead b m bytes s u r (accepted voices rows) (Ok tt)
   faulted : (cause : Cause) (place : ℕ) (first : FirstFault m bytes (cause_number cause) place (cause_layer cause)) → u ≡ begun first.voices first.rows
       → Fills b m s first.voices first.rows r

@@ -52,26 +52,26 @@ item_at m voices rows (b ∷ bs) =
 -- ---- all records
 
 -- what a sheet comes to: voices and rows, or a fault, by its number, its place and its layer
-pub data Outcome : Type 0 where
-  accepted : List ℕ → List RowData → Outcome
-  refused : ℕ → ℕ → Layer → Outcome
+pub data SheetReading : Type 0 where
+  accepted : List ℕ → List RowData → SheetReading
+  refused : ℕ → ℕ → Layer → SheetReading
 
 -- what this at the front comes to, at the place `at`, after the records of these voices and rows; `next` says what all comes to that follows it
-abbrev pub read_on : Meaning → (ℕ → List ℕ → List RowData → List ℕ → Outcome) → ℕ → List ℕ → List RowData → List ℕ → Item → Outcome
+abbrev pub read_on : Meaning → (ℕ → List ℕ → List RowData → List ℕ → SheetReading) → ℕ → List ℕ → List RowData → List ℕ → Item → SheetReading
 read_on m next at voices rows bs last = accepted voices rows
 read_on m next at voices rows bs (voice s) = next (at + 9) (voices ++ (s ∷ [])) rows (drop 9 bs)
 read_on m next at voices rows bs (row r) = next (at + length r) voices (rows ++ (decode m r ∷ [])) (drop (length r) bs)
 read_on m next at voices rows bs (fault k offset layer) = refused k (at + offset) layer
 
 -- record after record; the number bounds them, and each has a byte or more
-abbrev pub read_from : Meaning → ℕ → ℕ → List ℕ → List RowData → List ℕ → Outcome
+abbrev pub read_from : Meaning → ℕ → ℕ → List ℕ → List RowData → List ℕ → SheetReading
 read_from m zero at voices rows bs = refused 1 at Sheet
 read_from m (suc n) at voices rows bs = read_on m (read_from m n) at voices rows bs (item_at m voices rows bs)
 
-abbrev pub read_sheet : Meaning → List ℕ → Outcome
+abbrev pub read_sheet : Meaning → List ℕ → SheetReading
 read_sheet m bs = read_from m (suc (length bs)) 0 [] [] bs
 
 -- the table that a Load leaves: its search has not begun; after a declined one it is empty
-abbrev pub table_after : Outcome → Table
+abbrev pub table_after : SheetReading → Table
 table_after (accepted voices rows) = begun voices rows
 table_after (refused n place layer) = empty

@@ -13,7 +13,7 @@ use Rattle.table.specs.declared.table.Table.{Table}
 use Rattle.table.specs.Shown.{model}
 use Rattle.sheets.specs.Sheets.{sheet}
 use Rattle.sheets.specs.Reading.{read_sheet}
-use Rattle.sheets.specs.Reading.Outcome.{accepted}
+use Rattle.sheets.specs.Reading.SheetReading.{accepted}
 
 module _ {B S : Type 0} {b : bank.Ghosts B} {s : store.Ghosts S} where
   -- the sheet of the table's voices and rows

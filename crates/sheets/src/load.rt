@@ -3,7 +3,7 @@ ghost use Rattle.std.specs.Prelude.{◌≡◌, true, false, is_err};
 ghost use Rattle.search.specs.Calls.{empty, Call, Answer};
 ghost use Rattle.table.specs.Shown.{model, store_in, CallDone};
 ghost use Rattle.sheets.specs.Reading.{front_row, voice_item, row_item, item_at, read_sheet};
-ghost use Rattle.sheets.specs.Loading.{load_answer, outcome_answer, LoadLeaves, LoadBack, LoadLasts, Unsearched, ItemRead, RecordsRead};
+ghost use Rattle.sheets.specs.Loading.{load_answer, reading_answer, LoadLeaves, LoadBack, LoadExtends, Unsearched, ItemRead, RecordsRead};
 ghost use Rattle.sheets.specs.Saving.{sheet_of};
 
 use crate::fault::{Cause, SheetFault};
@@ -109,10 +109,10 @@ fn wipe_declined<B: Bank, S: Store>(table: &mut Table<B, S>, res: &Result<(), Sh
 // Gives the table the voices and rows of the sheet, in place of its own. The store is emptied, and the search has not begun. A declined sheet leaves no
 // voices and no rows.
 pub fn load<B: Bank, S: Store>(table: &mut Table<B, S>, bytes: &[u8]) -> Result<(), SheetFault>
-    ensures value { load_answer result ≡ outcome_answer (read_sheet B.Bank.meaning bytes.now) }
+    ensures value { load_answer result ≡ reading_answer (read_sheet B.Bank.meaning bytes.now) }
     ensures after { LoadLeaves S.Store.behaviour B.Bank.meaning bytes.now (store_in table.old) (model table.new 0) (store_in table.new) }
     ensures back { LoadBack (read_sheet B.Bank.meaning bytes.now) bytes.now (sheet_of table.new) }
-    ensures lasts { LoadLasts S.Store.behaviour B.Bank.meaning (model table.old) (store_in table.old) bytes.now (model table.new 0) (store_in table.new) }
+    ensures history { LoadExtends S.Store.behaviour B.Bank.meaning (model table.old) (store_in table.old) bytes.now (model table.new 0) (store_in table.new) }
 {
     table.wipe();
     let result = read_records(table, bytes);

@@ -26,14 +26,14 @@ same_pointwise (x ∷ xs) (y ∷ ys) = ap (λ (b : Bool). eqb x y && b) (same_po
 
 -- ---- headers
 
--- what a header tells
-pub record Tells (link hash len h : ℕ) : Type 0 where
+-- what a header fields
+pub record HeaderFields (link hash len h : ℕ) : Type 0 where
   pub long : h % 65536 ≡ len
   pub on : h / 65536 % 65536 ≡ link
   pub print : h / 4294967296 ≡ hash / 4294967296
 
-pub tells : (link hash len : ℕ) → link < 65536 → len < 65536 → Tells link hash len (hash / 4294967296 * 4294967296 + link * 65536 + len)
-tells link hash len l n = record { long = omega arith; on = omega arith; print = omega arith }
+pub fields : (link hash len : ℕ) → link < 65536 → len < 65536 → HeaderFields link hash len (hash / 4294967296 * 4294967296 + link * 65536 + len)
+fields link hash len l n = record { long = omega arith; on = omega arith; print = omega arith }
 
 header_length : (link : ℕ) (k : List ℕ) → length k < 65536 → header link k % 65536 ≡ length k
 header_length link k n = omega arith
@@ -91,7 +91,7 @@ short_reverse : (ks : List (List ℕ)) → Short ks → Short (reverse ks)
 short_reverse [] s = tt
 short_reverse (k ∷ ks) s = subst Short (sym (reverse_more ks k)) (short_push (reverse ks) k (short_reverse ks s.1) s.0)
 
--- words that are these keys, the oldest first, each behind a word that tells its length
+-- words that are these keys, the oldest first, each behind a word that fields its length
 data Runs : List ℕ → List (List ℕ) → Type 0 where
   none : Runs [] []
   more : (h : ℕ) (k ws : List ℕ) (ks : List (List ℕ)) → h % 65536 ≡ length k → Runs ws ks → Runs (h ∷ (k ++ ws)) (k ∷ ks)
@@ -233,7 +233,7 @@ walk_ends used key at w h = sym (w.members ∙ no_newest key w.older (omega (ari
 pub record Stop (all : List ℕ) (n : ℕ) (key : List ℕ) (at : ℕ) : Type 0 where
   pub held : List ℕ
   pub link : ℕ
-  pub tells : Tells link (hash_of held) (length held) (get_or all (at - 1) 0)
+  pub fields : HeaderFields link (hash_of held) (length held) (get_or all (at - 1) 0)
   pub lower : link < at
   pub inside : at + length held ≤ n
   pub words : take (length held) (drop at all) ≡ held
@@ -244,8 +244,8 @@ pub walk_stops : (all : List ℕ) (n : ℕ) (key : List ℕ) (at : ℕ) → n �
 walk_stops all n key at l r w h = record {
   held = s.key;
   link = newest (bucket key) s.before;
-  tells = subst (Tells (newest (bucket key) s.before) (hash_of s.key) (length s.key)) (sym read)
-      (tells (newest (bucket key) s.before) (hash_of s.key) (length s.key) (omega (arith, lower, inside)) s.short);
+  fields = subst (HeaderFields (newest (bucket key) s.before) (hash_of s.key) (length s.key)) (sym read)
+      (fields (newest (bucket key) s.before) (hash_of s.key) (length s.key) (omega (arith, lower, inside)) s.short);
   lower = lower;
   inside = inside;
   words = ap (λ (x : List ℕ). take (length s.key) x) behind ∙ take_at s.key more (length s.key) refl;

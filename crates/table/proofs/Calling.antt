@@ -9,12 +9,12 @@ use Rattle.rows.specs.Bytes.{decode}
 use Rattle.stores.specs.Behaviours.{Behaviour}
 use Rattle.search.specs.Search.{Level, Place}
 use Rattle.search.specs.Search.Place.{fresh, going, found, none}
-use Rattle.search.specs.Calls.{Table, begun, Call, Answer, Formed, Judgement, judged, is_found, result, says, Does}
+use Rattle.search.specs.Calls.{Table, begun, Call, Answer, Formed, Judgement, judged, is_found, result, place_answer, Does}
 use Rattle.search.specs.Calls.Call.{declare, post, solve, read, wipe}
 use Rattle.search.specs.Histories.{History}
 use Rattle.search.proofs.AnyStore.{goes_any}
 use Rattle.search.proofs.AnswerFacts.{goes_kept}
-use Rattle.search.proofs.OverEvery.{search_stands, answers_stand, reads_stand}
+use Rattle.search.proofs.OverEvery.{invariant_holds, answers_hold, reads_hold}
 use Rattle.table.specs.declared.engine.level.End.{End}
 use Rattle.table.specs.declared.engine.level.End.TheVariants.{Fresh, Found, Exhausted}
 use Rattle.table.specs.declared.outcome.Outcome.{Outcome}
@@ -24,32 +24,32 @@ use Rattle.table.specs.Places.{place_of}
 use Rattle.table.specs.Searches.{place, table_of, Begun, outcome_of, Runs}
 use Rattle.table.specs.declared.refusal.Refusal.{Refusal}
 use Rattle.table.specs.Shown.{outcome_answer}
-use Rattle.table.specs.Lasting.{Done, Tells, ReadTells, Lasts}
+use Rattle.table.specs.CallLaws.{Done, AnswerMeans, ReadMeans, ExtendsHistories}
 
 -- ---- what lasts
 
 module _ (st : Behaviour) (m : Meaning) (L : Laws m) where
-  read_tells : (g : st.State) (h : List (Call × Answer)) (buffer : List ℕ) (a : Answer) (t : Table) (v : st.State) → History st m g ((read buffer, a) ∷ h) t v → ReadTells m h buffer a
-  read_tells g h buffer Answer.done t v H = tt
-  read_tells g h buffer (Answer.refused n) t v H = tt
-  read_tells g h buffer (Answer.found p) t v H = tt
-  read_tells g h buffer Answer.none t v H = tt
-  read_tells g h buffer Answer.stopped t v H = tt
-  read_tells g h buffer (Answer.wrote n b) t v H = reads_stand st m L g [] h buffer n b t v H
+  read_means : (g : st.State) (h : List (Call × Answer)) (buffer : List ℕ) (a : Answer) (t : Table) (v : st.State) → History st m g ((read buffer, a) ∷ h) t v → ReadMeans m h buffer a
+  read_means g h buffer Answer.done t v H = tt
+  read_means g h buffer (Answer.refused n) t v H = tt
+  read_means g h buffer (Answer.found p) t v H = tt
+  read_means g h buffer Answer.none t v H = tt
+  read_means g h buffer Answer.stopped t v H = tt
+  read_means g h buffer (Answer.wrote n b) t v H = reads_hold st m L g [] h buffer n b t v H
 
-  tells : (g : st.State) (h : List (Call × Answer)) (c : Call) (a : Answer) (t : Table) (v : st.State) → History st m g ((c, a) ∷ h) t v → Tells m h c a
-  tells g h (declare s) a t v H = tt
-  tells g h (post bs) a t v H = tt
-  tells g h (solve b) a t v H = answers_stand st m L g [] h b a t v H
-  tells g h (read buffer) a t v H = read_tells g h buffer a t v H
-  tells g h wipe a t v H = tt
+  means : (g : st.State) (h : List (Call × Answer)) (c : Call) (a : Answer) (t : Table) (v : st.State) → History st m g ((c, a) ∷ h) t v → AnswerMeans m h c a
+  means g h (declare s) a t v H = tt
+  means g h (post bs) a t v H = tt
+  means g h (solve b) a t v H = answers_hold st m L g [] h b a t v H
+  means g h (read buffer) a t v H = read_means g h buffer a t v H
+  means g h wipe a t v H = tt
 
-  pub lasts_by : (t : ℕ → Table) (v : st.State) (c : Call) (a : Answer) (u : ℕ → Table) (w : st.State) → Formed c → Done st m t v c a u w → Lasts st m t v c a u w
-  lasts_by t v c a u w f d = record {
+  pub extends_by : (t : ℕ → Table) (v : st.State) (c : Call) (a : Answer) (u : ℕ → Table) (w : st.State) → Formed c → Done st m t v c a u w → ExtendsHistories st m t v c a u w
+  extends_by t v c a u w f d = record {
     lost = d.lost;
     history = λ g h j H. History.then h (t j) (u (d.lost j)) v w c a H f (d.does j);
-    stands = λ g h j H. search_stands st m L g ((c, a) ∷ h) (u (d.lost j)) w (History.then h (t j) (u (d.lost j)) v w c a H f (d.does j));
-    tells = λ g h j H. tells g h c a (u (d.lost j)) w (History.then h (t j) (u (d.lost j)) v w c a H f (d.does j));
+    invariant = λ g h j H. invariant_holds st m L g ((c, a) ∷ h) (u (d.lost j)) w (History.then h (t j) (u (d.lost j)) v w c a H f (d.does j));
+    means = λ g h j H. means g h c a (u (d.lost j)) w (History.then h (t j) (u (d.lost j)) v w c a H f (d.does j));
   }
 
 -- ---- a search that has not begun
@@ -105,7 +105,7 @@ made_by st m voices s g w n e b h =
     let to : table_of voices [] s 0 ≡ begun [] [] = begun_table voices [] n s b ∙ ap (λ (y : List ℕ). begun y []) e in
     subst (λ (y : Table). History st m g [] y w) (sym to) (History.made w h)
 
-outcome_says : (p : Place) → outcome_answer (outcome_of p) (result p) ≡ says p
+outcome_says : (p : Place) → outcome_answer (outcome_of p) (result p) ≡ place_answer p
 outcome_says fresh = refl
 outcome_says (going l ls) = refl
 outcome_says (found p) = refl
@@ -115,7 +115,7 @@ pub solves_by : (st : Behaviour) (m : Meaning) (voices : List ℕ) (rows : List 
     → ((j : ℕ) → judged m (table_of voices rows s j) (solve b) ≡ Judgement.passes) → Runs st m b (table_of voices rows s) v (table_of voices rows s') w
     → Done st m (table_of voices rows s) v (solve b) (outcome_answer o (result (place s'))) (table_of voices rows s') w
 solves_by st m voices rows s s' v w b o e f r =
-    let a : outcome_answer o (result (place s')) ≡ says (place s') = ap (λ (x : Outcome). outcome_answer x (result (place s'))) e ∙ outcome_says (place s') in
+    let a : outcome_answer o (result (place s')) ≡ place_answer (place s') = ap (λ (x : Outcome). outcome_answer x (result (place s'))) e ∙ outcome_says (place s') in
     record {
       lost = λ j. j + r.lost;
       does = λ j. subst (λ (x : Answer). Does st m (table_of voices rows s j) v (solve b) x (table_of voices rows s' (j + r.lost)) w) (sym a)

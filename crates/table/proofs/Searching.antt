@@ -3,7 +3,7 @@ use Rattle.std.proofs.Common.{◌≡◌, ℕ, ◌+◌, ◌≤◌, true, false, �
 use Rattle.rows.specs.Rows.{RowData, Meaning}
 use Rattle.stores.specs.Behaviours.{Behaviour}
 use Rattle.search.specs.Search.{Level, Place, Opens, Steps, taken}
-use Rattle.search.specs.Calls.{Table, over, Goes}
+use Rattle.search.specs.Calls.{Table, over, OpensNodes}
 use Rattle.table.specs.declared.engine.level.End.{End}
 use Rattle.table.specs.declared.engine.level.End.TheVariants.{Fresh, Found, Exhausted}
 use Rattle.table.specs.Levels.{next_sets, tried}
@@ -41,21 +41,21 @@ module _ (st : Behaviour) where
       (subst (λ (x : ℕ). Ran st m 1 (λ j. table voices rows p o e j) v (λ j. table voices rows q (o + 1) x j) w) (sym d)
       (record {
         lost = a.lost;
-        goes = λ j. Goes.more 0 (table voices rows p o e j) (table voices rows q (o + 1) (e + n) (j + a.lost)) v w w q n a.lost a.steps
-            (Goes.stay (table voices rows q (o + 1) (e + n) (j + a.lost)) w);
+        goes = λ j. OpensNodes.more 0 (table voices rows p o e j) (table voices rows q (o + 1) (e + n) (j + a.lost)) v w w q n a.lost a.steps
+            (OpensNodes.stay (table voices rows q (o + 1) (e + n) (j + a.lost)) w);
       }))
 
-  recount : {m : Meaning} {b c : ℕ} {t : Table} {v : st.State} {u : Table} {w : st.State} → b ≡ c → Goes st m b t v u w → Goes st m c t v u w
-  recount {m} {b} {c} {t} {v} {u} {w} e g = subst (λ (n : ℕ). Goes st m n t v u w) e g
+  recount : {m : Meaning} {b c : ℕ} {t : Table} {v : st.State} {u : Table} {w : st.State} → b ≡ c → OpensNodes st m b t v u w → OpensNodes st m c t v u w
+  recount {m} {b} {c} {t} {v} {u} {w} e g = subst (λ (n : ℕ). OpensNodes st m n t v u w) e g
 
-  goes_then : {m : Meaning} {b c : ℕ} {t : Table} {v : st.State} {u : Table} {w : st.State} {x : Table} {y : st.State} → Goes st m b t v u w → Goes st m c u w x y → Goes st m (b + c) t v x y
-  goes_then (Goes.stay t v) h = recount (omega arith) h
-  goes_then {c = c} {x = x} {y = y} (Goes.more b t u v w z p n k S G) h = recount (omega arith) (Goes.more (b + c) t x v w y p n k S (goes_then G h))
+  goes_then : {m : Meaning} {b c : ℕ} {t : Table} {v : st.State} {u : Table} {w : st.State} {x : Table} {y : st.State} → OpensNodes st m b t v u w → OpensNodes st m c u w x y → OpensNodes st m (b + c) t v x y
+  goes_then (OpensNodes.stay t v) h = recount (omega arith) h
+  goes_then {c = c} {x = x} {y = y} (OpensNodes.more b t u v w z p n k S G) h = recount (omega arith) (OpensNodes.more (b + c) t x v w y p n k S (goes_then G h))
 
   pub ran_none : (m : Meaning) (t : ℕ → Table) (v : st.State) (n : ℕ) → n ≡ 0 → Ran st m n t v t v
   ran_none m t v n e = record {
     lost = 0;
-    goes = λ j. recount (sym e) (subst (λ (i : ℕ). Goes st m 0 (t j) v (t i) v) (omega arith) (Goes.stay (t j) v));
+    goes = λ j. recount (sym e) (subst (λ (i : ℕ). OpensNodes st m 0 (t j) v (t i) v) (omega arith) (OpensNodes.stay (t j) v));
   }
 
   pub ran_then : (m : Meaning) (b c d : ℕ) (t : ℕ → Table) (v : st.State) (u : ℕ → Table) (w : st.State) (x : ℕ → Table) (y : st.State) → d ≡ b + c
@@ -64,7 +64,7 @@ module _ (st : Behaviour) where
     lost = r.lost + q.lost;
     goes = λ j.
         let k : (j + r.lost) + q.lost ≡ j + (r.lost + q.lost) = omega arith in
-        recount (sym e) (subst (λ (i : ℕ). Goes st m (b + c) (t j) v (x i) y) k (goes_then (r.goes j) (q.goes (j + r.lost))));
+        recount (sym e) (subst (λ (i : ℕ). OpensNodes st m (b + c) (t j) v (x i) y) k (goes_then (r.goes j) (q.goes (j + r.lost))));
   }
 
   pub runs_by : (m : Meaning) (budget count : ℕ) (t : ℕ → Table) (v : st.State) (u : ℕ → Table) (w : st.State) → count ≤ budget → Ran st m count t v u w

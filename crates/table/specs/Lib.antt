@@ -5,5 +5,5 @@ pub mod Places
 pub mod Outcomes
 pub mod Searches
 pub mod Refusals
-pub mod Lasting
+pub mod CallLaws
 pub mod Shown

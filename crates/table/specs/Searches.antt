@@ -4,7 +4,7 @@ use Rattle.rows.specs.Rows.{RowData, Meaning}
 use Rattle.stores.specs.Behaviours.{Behaviour}
 use Rattle.search.specs.Search.{Level, Place}
 use Rattle.search.specs.Search.Place.{fresh, going, found, none}
-use Rattle.search.specs.Calls.{Table, Goes, Solved}
+use Rattle.search.specs.Calls.{Table, OpensNodes, Solved}
 use Rattle.table.specs.Places.{place_of}
 use Rattle.table.specs.Stacks.{listed}
 use Rattle.table.specs.declared.engine.state.Search.{Search}
@@ -48,7 +48,7 @@ outcome_of none = None
 -- n nodes are opened, whatever was lost before
 pub record Ran (b : Behaviour) (m : Meaning) (n : ℕ) (t : ℕ → Table) (s : b.State) (u : ℕ → Table) (r : b.State) : Type 0 where
   pub lost : ℕ
-  pub goes : (j : ℕ) → Goes b m n (t j) s (u (j + lost)) r
+  pub goes : (j : ℕ) → OpensNodes b m n (t j) s (u (j + lost)) r
 
 -- nodes are opened with this budget, whatever was lost before
 pub record Runs (b : Behaviour) (m : Meaning) (budget : ℕ) (t : ℕ → Table) (s : b.State) (u : ℕ → Table) (r : b.State) : Type 0 where

@@ -13,7 +13,7 @@ use Rattle.table.specs.declared.outcome.Outcome.TheVariants.{Stopped, Found, Non
 use Rattle.table.specs.declared.refusal.Refusal.{Refusal}
 use Rattle.table.specs.declared.table.Table.{Table}
 use Rattle.table.specs.Refusals.{refusal_number}
-use Rattle.table.specs.Lasting.{Done, Lasts}
+use Rattle.table.specs.CallLaws.{Done, ExtendsHistories}
 
 module _ {B S : Type 0} {b : bank.Ghosts B} {s : store.Ghosts S} where
   -- the table's rows
@@ -39,8 +39,8 @@ module _ {B S : Type 0} {b : bank.Ghosts B} {s : store.Ghosts S} where
   CallDone t c a u = Done s.behaviour b.meaning (model t) (store_in t) c a (model u) (store_in u)
 
   -- and by what lasts over whole histories of calls
-  abbrev pub CallLasts : Table B S b s → Call → Answer → Table B S b s → Type 0
-  CallLasts t c a u = Lasts s.behaviour b.meaning (model t) (store_in t) c a (model u) (store_in u)
+  abbrev pub CallExtends : Table B S b s → Call → Answer → Table B S b s → Type 0
+  CallExtends t c a u = ExtendsHistories s.behaviour b.meaning (model t) (store_in t) c a (model u) (store_in u)
 
   -- what Make gives over a store in this state: a table with which a history begins
   abbrev pub Begins : s.behaviour.State → Table B S b s → Type 0

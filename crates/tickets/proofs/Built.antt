@@ -20,10 +20,10 @@ use Rattle.tickets.specs.Building.{Verdict, row_length, next_place, new_ticket, 
 use Rattle.tickets.specs.declared.ticket.CloseFault.{CloseFault}
 use Rattle.tickets.specs.declared.ticket.CloseFault.TheVariants.{HandedBack, Posting}
 use Rattle.tickets.specs.declared.refusal.BuildRefusal.{BuildRefusal}
-use Rattle.tickets.specs.Closing.{close_answer, handed_back, to_hand_back, row_in, Posts, PostLasts}
+use Rattle.tickets.specs.Closing.{close_answer, handed_back, to_hand_back, row_in, Posts, PostExtends}
 use Rattle.tickets.specs.Whole.{left, members_answer, members_memory, row_bytes, count_verdict, and_then, build_verdict, build_memory, refusal_of, build_answer, own_fault}
 use Rattle.tickets.proofs.Writings.{written_more, read_front}
-use Rattle.tickets.proofs.Verdicts.{checked_passed, ticket_passed, ticket_failed, begin_room, stays, posts_same, lasts_same}
+use Rattle.tickets.proofs.Verdicts.{checked_passed, ticket_passed, ticket_failed, begin_room, stays, posts_same, extends_same}
 
 -- ---- Begin declines
 
@@ -140,7 +140,7 @@ module _ {B S : Type 0} {b : bank.Ghosts B} {s : store.Ghosts S} (m : Meaning) (
   pub record Built (r : Result Unit BuildRefusal) (after : List ℕ) : Type 0 where
     pub value : own_fault r ≡ build_verdict m letter body members (length mem)
     pub does : Posts (build_verdict m letter body members (length mem)) t (row_bytes letter body members) (build_answer r) u
-    pub lasts : PostLasts (build_verdict m letter body members (length mem)) t (row_bytes letter body members) (build_answer r) u
+    pub history : PostExtends (build_verdict m letter body members (length mem)) t (row_bytes letter body members) (build_answer r) u
     pub memory : after ≡ build_memory m letter body members mem
 
   -- refused before Close
@@ -148,7 +148,7 @@ module _ {B S : Type 0} {b : bank.Ghosts B} {s : store.Ghosts S} (m : Meaning) (
       → build_verdict m letter body members (length mem) ≡ Err f → after ≡ build_memory m letter body members mem → Built r after
   built_not r after f same e v w =
       let s = stays t u (build_answer r) (build_verdict m letter body members (length mem)) f (row_bytes letter body members) v same in
-      record { value = ap own_fault e ∙ sym v; does = s.0; lasts = s.1; memory = w }
+      record { value = ap own_fault e ∙ sym v; does = s.0; history = s.1; memory = w }
 
   -- after Close
   pub built_by : (begun after : List ℕ) (ticket given : Ticket) (r : Result Unit CloseFault) (s : Result Unit BuildRefusal) → s ≡ as_build r
@@ -156,19 +156,19 @@ module _ {B S : Type 0} {b : bank.Ghosts B} {s : store.Ghosts S} (m : Meaning) (
       → Ok given ≡ members_answer ticket members → after ≡ members_memory ticket members begun → length after ≡ length mem
       → handed_back r ≡ to_hand_back (close_verdict given (length after)) given
       → Posts (close_verdict given (length after)) t (row_in given after) (close_answer r) u
-      → PostLasts (close_verdict given (length after)) t (row_in given after) (close_answer r) u
+      → PostExtends (close_verdict given (length after)) t (row_in given after) (close_answer r) u
       → Built s after
-  built_by begun after ticket given r s e b w g x same back does lasts =
+  built_by begun after ticket given r s e b w g x same back does history =
       let f = filled m letter body mem begun after members ticket b w x in
       let c = closed m letter body mem after members ticket given b g same f.1 in
       let v = close_verdict given (length after) in
       let a : close_answer r ≡ build_answer s = answer_same r ∙ ap build_answer (sym e) in
       let bytes = row_bytes letter body members in
       let d : Posts v t (row_in given after) (build_answer s) u = subst (λ (y : Answer). Posts v t (row_in given after) y u) a does in
-      let l : PostLasts v t (row_in given after) (build_answer s) u = subst (λ (y : Answer). PostLasts v t (row_in given after) y u) a lasts in
+      let l : PostExtends v t (row_in given after) (build_answer s) u = subst (λ (y : Answer). PostExtends v t (row_in given after) y u) a history in
       record {
         value = ap own_fault e ∙ own_back r v given back ∙ c.0;
         does = posts_same t u (build_answer s) v (build_verdict m letter body members (length mem)) (row_in given after) bytes c.0 c.1 d;
-        lasts = lasts_same t u (build_answer s) v (build_verdict m letter body members (length mem)) (row_in given after) bytes c.0 c.1 l;
+        history = extends_same t u (build_answer s) v (build_verdict m letter body members (length mem)) (row_in given after) bytes c.0 c.1 l;
         memory = f.0;
       }

@@ -9,12 +9,12 @@ use Rattle.rows.specs.Reading.{checked}
 use Rattle.rows.specs.Written.{written}
 use Rattle.search.specs.Calls.{Call, Answer}
 use Rattle.table.specs.declared.table.Table.{Table}
-use Rattle.table.specs.Shown.{CallDone, CallLasts}
+use Rattle.table.specs.Shown.{CallDone, CallExtends}
 use Rattle.tickets.specs.declared.fault.BuildFault.{BuildFault}
 use Rattle.tickets.specs.declared.fault.BuildFault.TheVariants.{UnknownLetter, BadCount, WrongLength, ShortMemory}
 use Rattle.tickets.specs.declared.ticket.Ticket.{Ticket}
 use Rattle.tickets.specs.Building.{Verdict, has_room, row_length, ticket_or_fault, new_ticket, begin_verdict, begin_answer, begin_memory}
-use Rattle.tickets.specs.Closing.{Posts, PostLasts}
+use Rattle.tickets.specs.Closing.{Posts, PostExtends}
 
 -- ---- tests
 
@@ -55,8 +55,8 @@ begun m letter body mem after t e w =
 
 module _ {B S : Type 0} {b : bank.Ghosts B} {s : store.Ghosts S} (t u : Table B S b s) (a : Answer) where
   -- refused: the table stays
-  pub stays : (v : Verdict) (f : BuildFault) (bytes : List ℕ) → v ≡ Err f → u ≡ t → Posts v t bytes a u × PostLasts v t bytes a u
-  stays v f bytes e same = (subst (λ (x : Verdict). Posts x t bytes a u) (sym e) same, subst (λ (x : Verdict). PostLasts x t bytes a u) (sym e) same)
+  pub stays : (v : Verdict) (f : BuildFault) (bytes : List ℕ) → v ≡ Err f → u ≡ t → Posts v t bytes a u × PostExtends v t bytes a u
+  stays v f bytes e same = (subst (λ (x : Verdict). Posts x t bytes a u) (sym e) same, subst (λ (x : Verdict). PostExtends x t bytes a u) (sym e) same)
 
   -- the same verdict, and where it finds nothing wrong the same bytes
   pub posts_same : (v w : Verdict) (bytes others : List ℕ) → v ≡ w → (w ≡ Ok tt → bytes ≡ others) → Posts v t bytes a u → Posts w t others a u
@@ -64,7 +64,7 @@ module _ {B S : Type 0} {b : bank.Ghosts B} {s : store.Ghosts S} (t u : Table B 
       subst (λ (x : List ℕ). CallDone t (Call.post x) a u) (same refl) (subst (λ (x : Verdict). Posts x t bytes a u) e h)
   posts_same v (Err f) bytes others e same h = subst (λ (x : Verdict). Posts x t bytes a u) e h
 
-  pub lasts_same : (v w : Verdict) (bytes others : List ℕ) → v ≡ w → (w ≡ Ok tt → bytes ≡ others) → PostLasts v t bytes a u → PostLasts w t others a u
-  lasts_same v (Ok tt) bytes others e same h =
-      subst (λ (x : List ℕ). CallLasts t (Call.post x) a u) (same refl) (subst (λ (x : Verdict). PostLasts x t bytes a u) e h)
-  lasts_same v (Err f) bytes others e same h = subst (λ (x : Verdict). PostLasts x t bytes a u) e h
+  pub extends_same : (v w : Verdict) (bytes others : List ℕ) → v ≡ w → (w ≡ Ok tt → bytes ≡ others) → PostExtends v t bytes a u → PostExtends w t others a u
+  extends_same v (Ok tt) bytes others e same h =
+      subst (λ (x : List ℕ). CallExtends t (Call.post x) a u) (same refl) (subst (λ (x : Verdict). PostExtends x t bytes a u) e h)
+  extends_same v (Err f) bytes others e same h = subst (λ (x : Verdict). PostExtends x t bytes a u) e h

@@ -5,7 +5,7 @@ use Rattle.std.specs.Prelude.{◌≡◌, ℕ, List, take, Some, None, Ok, Err, O
 use Rattle.search.specs.Calls.{Call, Answer}
 use Rattle.table.specs.declared.table.Table.{Table}
 use Rattle.table.specs.Refusals.{refusal_number}
-use Rattle.table.specs.Shown.{CallDone, CallLasts}
+use Rattle.table.specs.Shown.{CallDone, CallExtends}
 use Rattle.tickets.specs.declared.ticket.Ticket.{Ticket}
 use Rattle.tickets.specs.declared.ticket.Declined.{Declined}
 use Rattle.tickets.specs.declared.ticket.CloseFault.{CloseFault}
@@ -41,6 +41,6 @@ module _ {B S : Type 0} {b : bank.Ghosts B} {s : store.Ghosts S} where
   Posts (Err fault) t bytes a u = u ≡ t
 
   -- and then what lasts over whole histories of calls lasts over this Post
-  abbrev pub PostLasts : Verdict → Table B S b s → List ℕ → Answer → Table B S b s → Type 0
-  PostLasts (Ok x) t bytes a u = CallLasts t (Call.post bytes) a u
-  PostLasts (Err fault) t bytes a u = u ≡ t
+  abbrev pub PostExtends : Verdict → Table B S b s → List ℕ → Answer → Table B S b s → Type 0
+  PostExtends (Ok x) t bytes a u = CallExtends t (Call.post bytes) a u
+  PostExtends (Err fault) t bytes a u = u ≡ t

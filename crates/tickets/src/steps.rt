@@ -1,7 +1,7 @@
 // The steps of building a row: Begin, Member, Close and Scrap.
 ghost use Rattle.std.specs.Prelude.{◌≡◌, length};
 ghost use Rattle.tickets.specs.Building.{close_verdict, begin_answer, begin_memory, member_answer, member_memory};
-ghost use Rattle.tickets.specs.Closing.{close_answer, handed_back, to_hand_back, row_in, Posts, PostLasts};
+ghost use Rattle.tickets.specs.Closing.{close_answer, handed_back, to_hand_back, row_in, Posts, PostExtends};
 
 use crate::fault::BuildFault;
 use crate::ticket::{CloseFault, Declined, Ticket};
@@ -71,7 +71,7 @@ pub fn close<B: Bank, S: Store>(
 ) -> Result<(), CloseFault>
     ensures back { handed_back result ≡ to_hand_back (close_verdict ticket (length memory.now)) ticket }
     ensures does { Posts (close_verdict ticket (length memory.now)) table.old (row_in ticket memory.now) (close_answer result) table.new }
-    ensures lasts { PostLasts (close_verdict ticket (length memory.now)) table.old (row_in ticket memory.now) (close_answer result) table.new }
+    ensures history { PostExtends (close_verdict ticket (length memory.now)) table.old (row_in ticket memory.now) (close_answer result) table.new }
 {
     // no `map_err`, as in give_member
     if let Err(fault) = ticket.check_close(memory.len()) {

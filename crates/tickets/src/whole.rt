@@ -1,7 +1,7 @@
 // A whole row built.
 ghost use Rattle.std.specs.Prelude.{◌≡◌, ◌≤◌, length};
 ghost use Rattle.tickets.specs.Building.{row_length};
-ghost use Rattle.tickets.specs.Closing.{Posts, PostLasts};
+ghost use Rattle.tickets.specs.Closing.{Posts, PostExtends};
 ghost use Rattle.tickets.specs.Whole.{row_bytes, build_verdict, build_memory, build_answer, own_fault, members_answer, members_memory};
 
 use crate::refusal::BuildRefusal;
@@ -38,7 +38,7 @@ pub fn build<B: Bank, S: Store>(
 ) -> Result<(), BuildRefusal>
     ensures value { own_fault result ≡ build_verdict B.Bank.meaning letter body.now members.now (length memory.old) }
     ensures does { Posts (build_verdict B.Bank.meaning letter body.now members.now (length memory.old)) table.old (row_bytes letter body.now members.now) (build_answer result) table.new }
-    ensures lasts { PostLasts (build_verdict B.Bank.meaning letter body.now members.now (length memory.old)) table.old (row_bytes letter body.now members.now) (build_answer result) table.new }
+    ensures history { PostExtends (build_verdict B.Bank.meaning letter body.now members.now (length memory.old)) table.old (row_bytes letter body.now members.now) (build_answer result) table.new }
     ensures memory { memory.new ≡ build_memory B.Bank.meaning letter body.now members.now memory.old }
 {
     let ticket = begin::<B>(letter, body, memory)?;

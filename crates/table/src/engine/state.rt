@@ -34,5 +34,5 @@ pub struct Search {
     ghost room: { most_voices ≤ vec_capacity sets },
     ghost fitted: { levels.width ≡ vec_len sets },
     // the newest level has a value left to try
-    ghost lasts: { is_spent (listed levels) ≡ false },
+    ghost history: { is_spent (listed levels) ≡ false },
 }

@@ -3,7 +3,7 @@ ghost use Rattle.std.specs.Prelude.{◌≡◌, ◌+◌, OnErr, not, ◌||◌, le
 ghost use Rattle.rows.specs.Bytes.{total_bytes};
 ghost use Rattle.search.specs.Limits.{most_rows, most_bytes};
 ghost use Rattle.search.specs.Calls.{Call, Answer};
-ghost use Rattle.table.specs.Shown.{rows_in, CallDone, CallLasts, done_answer};
+ghost use Rattle.table.specs.Shown.{rows_in, CallDone, CallExtends, done_answer};
 
 use crate::refusal::Refusal;
 use crate::table::{MOST_BYTES, MOST_ROWS, MOST_VOICES, Table};
@@ -16,7 +16,7 @@ impl<B: Bank, S: Store> Table<B, S> {
     // One voice more, with this opening set. The store is emptied, and the search begins again.
     pub fn declare(&mut self, set: ValueSet) -> Result<(), Refusal>
         ensures does { CallDone self.old (Call.declare set) (done_answer result) self.new }
-        ensures lasts { CallLasts self.old (Call.declare set) (done_answer result) self.new }
+        ensures history { CallExtends self.old (Call.declare set) (done_answer result) self.new }
         ensures declined { OnErr result (self.new ≡ self.old) }
     {
         if set == 0 {
@@ -44,7 +44,7 @@ impl<B: Bank, S: Store> Table<B, S> {
     // One row more, from its bytes. The store is emptied, and the search begins again.
     pub fn post(&mut self, bytes: &[u8]) -> Result<(), Refusal>
         ensures does { CallDone self.old (Call.post bytes.now) (done_answer result) self.new }
-        ensures lasts { CallLasts self.old (Call.post bytes.now) (done_answer result) self.new }
+        ensures history { CallExtends self.old (Call.post bytes.now) (done_answer result) self.new }
         ensures declined { OnErr result (self.new.store ≡ self.old.store) }
     {
         let voices = self.voices.len();
@@ -62,7 +62,7 @@ impl<B: Bank, S: Store> Table<B, S> {
     // No voices and no rows. The store is emptied.
     pub fn wipe(&mut self)
         ensures does { CallDone self.old Call.wipe Answer.done self.new }
-        ensures lasts { CallLasts self.old Call.wipe Answer.done self.new }
+        ensures history { CallExtends self.old Call.wipe Answer.done self.new }
     {
         self.voices.clear();
         self.posted = 0;

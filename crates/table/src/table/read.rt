@@ -1,6 +1,6 @@
 // What was found, read.
 ghost use Rattle.search.specs.Calls.{Call};
-ghost use Rattle.table.specs.Shown.{CallDone, CallLasts, read_answer, LeftAlone};
+ghost use Rattle.table.specs.Shown.{CallDone, CallExtends, read_answer, LeftAlone};
 
 use crate::refusal::Refusal;
 use crate::table::Table;
@@ -13,7 +13,7 @@ impl<B: Bank, S: Store> Table<B, S> {
     // Writes the found values at the front of `out`, and answers how many; bytes beyond them stay.
     pub fn read(&self, out: &mut [u8]) -> Result<usize, Refusal>
         ensures does { CallDone self.now (Call.read out.old) (read_answer result out.new) self.now }
-        ensures lasts { CallLasts self.now (Call.read out.old) (read_answer result out.new) self.now }
+        ensures history { CallExtends self.now (Call.read out.old) (read_answer result out.new) self.now }
         ensures buffer { LeftAlone result out.old out.new }
     {
         match self.search.outcome() {

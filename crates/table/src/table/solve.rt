@@ -1,7 +1,7 @@
 // A table searched.
 ghost use Rattle.std.specs.Prelude.{◌≡◌, ◌+◌, ◌≤◌, OnErr};
 ghost use Rattle.search.specs.Calls.{Call, over};
-ghost use Rattle.table.specs.Shown.{model, found_in, CallDone, CallLasts, solve_answer};
+ghost use Rattle.table.specs.Shown.{model, found_in, CallDone, CallExtends, solve_answer};
 
 use crate::refusal::Refusal;
 use crate::table::Table;
@@ -18,7 +18,7 @@ impl<B: Bank, S: Store> Table<B, S> {
     // Opens nodes until the search is over, and at most `budget` of them. Found values are read by `read`.
     pub fn solve(&mut self, budget: u64) -> Result<Outcome, Refusal>
         ensures does { CallDone self.old (Call.solve budget) (solve_answer result (found_in self.new)) self.new }
-        ensures lasts { CallLasts self.old (Call.solve budget) (solve_answer result (found_in self.new)) self.new }
+        ensures history { CallExtends self.old (Call.solve budget) (solve_answer result (found_in self.new)) self.new }
         ensures declined { OnErr result (self.new ≡ self.old) }
         ensures onward { (model self.old 0).opened ≤ (model self.new 0).opened }
         ensures budget { (model self.new 0).opened ≤ (model self.old 0).opened + budget }

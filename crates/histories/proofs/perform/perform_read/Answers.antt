@@ -4,7 +4,7 @@ use Rattle.std.proofs.lemmas.List.{with_items_is}
 use Rattle.search.specs.Calls.{Answer}
 use Rattle.search.specs.Calls.Call.{read}
 use Rattle.table.specs.Shown.{model, store_in}
-use Rattle.table.specs.Lasting.{Done, Lasts}
+use Rattle.table.specs.CallLaws.{Done, ExtendsHistories}
 use Rattle.histories.proofs.perform.perform_read.Goals as goal
 
 pub returns-in-Ok : goal.returns-in-Ok
@@ -19,5 +19,5 @@ returns-in-Ok g c =
     let a = λ (x : List ℕ). Answer.wrote c.in-Ok.count x in
     record {
       does = subst₂ (λ (x y : List ℕ). Done b m (model t) v (read x) (a y) (model t) v) e f c.in-Ok.ensures.does;
-      lasts = subst₂ (λ (x y : List ℕ). Lasts b m (model t) v (read x) (a y) (model t) v) e f c.in-Ok.ensures.lasts;
+      history = subst₂ (λ (x y : List ℕ). ExtendsHistories b m (model t) v (read x) (a y) (model t) v) e f c.in-Ok.ensures.history;
     }

@@ -3,7 +3,7 @@ use Rattle.std.proofs.lemmas.List.{with_items_is}
 use Rattle.search.specs.Calls.{Answer}
 use Rattle.search.specs.Calls.Call.{solve}
 use Rattle.table.specs.Shown.{model, store_in, rows_in}
-use Rattle.table.specs.Lasting.{Done, Lasts}
+use Rattle.table.specs.CallLaws.{Done, ExtendsHistories}
 use Rattle.histories.proofs.Finding.{place_found, read_wrote, wrote_ok, values_left}
 use Rattle.histories.proofs.perform.perform_solve.Goals as goal
 
@@ -41,6 +41,6 @@ returns-in-Ok-Found g c =
     let a = values_left s b out c.read.result k c.in-Ok-Found.field-0 c.in-Ok-Found.field-0-is c.unwrap-count.ensures e r ∙ ap Answer.found (sym f) in
     record {
       does = subst (λ (x : Answer). Done st m (model before) v (solve c.args.budget) x (model t) w) a c.in-Ok-Found.ensures.does;
-      lasts = subst (λ (x : Answer). Lasts st m (model before) v (solve c.args.budget) x (model t) w) a c.in-Ok-Found.ensures.lasts;
+      history = subst (λ (x : Answer). ExtendsHistories st m (model before) v (solve c.args.budget) x (model t) w) a c.in-Ok-Found.ensures.history;
       kept = tt;
     }

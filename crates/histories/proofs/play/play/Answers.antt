@@ -1,17 +1,17 @@
 use Rattle.std.proofs.Common.{◌≡◌, List, ◌∷◌, length, take, reverse, vec_items, sym, ap, ◌∙◌, subst, arith}
 use Rattle.table.specs.Shown.{model, store_in}
 use Rattle.histories.specs.declared.reply.Reply.{Reply}
-use Rattle.histories.specs.declared.reply.Standing.{Standing}
-use Rattle.histories.specs.Meant.{call_of, answer_of, calls_of, answers_of, standings_of}
-use Rattle.histories.specs.Told.{told, standings}
-use Rattle.histories.proofs.Telling.{Counted, none_counted, counted_then, one_more, all_played}
+use Rattle.histories.specs.declared.reply.Progress.{Progress}
+use Rattle.histories.specs.CallViews.{call_of, answer_of, calls_of, answers_of, progresses_of}
+use Rattle.histories.specs.Replies.{paired, progress_after}
+use Rattle.histories.proofs.Replying.{Counted, none_counted, counted_then, one_more, all_played}
 use Rattle.histories.proofs.play.play.Goals as goal
 
 pub loop-call-init : goal.loop-call-init
 loop-call-init g c =
     let H = c.in_ok-table.ensures in
-    let e : standings H ≡ reverse (standings_of (vec_items c.in_ok-replies.replies)) =
-    none_counted g.S.Store.behaviour g.B.Bank.meaning (g.S.Store.state c.args.store) H ∙ ap (λ (ys : List Reply). reverse (standings_of ys)) (sym c.in_ok-replies.ensures.items) in
+    let e : progress_after H ≡ reverse (progresses_of (vec_items c.in_ok-replies.replies)) =
+    none_counted g.S.Store.behaviour g.B.Bank.meaning (g.S.Store.state c.args.store) H ∙ ap (λ (ys : List Reply). reverse (progresses_of ys)) (sym c.in_ok-replies.ensures.items) in
     (c.in_ok-replies.ensures.len, omega (arith, c.in_ok-replies.ensures.capacity), (0, (H, e)))
 
 pub loop-call-preserved : goal.loop-call-preserved
@@ -34,12 +34,12 @@ loop-call-preserved g c =
       omega (arith, c.push_reserved.ensures.capacity, c.loop-call.invariant.1),
       (
         d.lost before.0,
-        one_more st m given {t = model u (d.lost before.0)} {s = store_in u} xs ys (vec_items c.push_reserved.new.self) i x (record { answer = a; standing = k }) c.loop-call-test.true many
+        one_more st m given {t = model u (d.lost before.0)} {s = store_in u} xs ys (vec_items c.push_reserved.new.self) i x (record { answer = a; progress = k }) c.loop-call-test.true many
             c.call-item.is c.push_reserved.ensures.items
             (subst
-            (λ (z : Standing). Counted st m given ((call_of x, answer_of a) ∷ told (calls_of (take i xs)) (answers_of ys)) (z ∷ reverse (standings_of ys)) (model u (d.lost before.0)) (store_in u))
+            (λ (z : Progress). Counted st m given ((call_of x, answer_of a) ∷ paired (calls_of (take i xs)) (answers_of ys)) (z ∷ reverse (progresses_of ys)) (model u (d.lost before.0)) (store_in u))
             (sym c.of.ensures)
-            (counted_then st m given (model t) (model u) (store_in t) (store_in u) (call_of x) (answer_of a) before.0 c.in_ok-perform.ensures.lasts d before.1)),
+            (counted_then st m given (model t) (model u) (store_in t) (store_in u) (call_of x) (answer_of a) before.0 c.in_ok-perform.ensures.history d before.1)),
       ),
     )
 

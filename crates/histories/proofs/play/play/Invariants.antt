@@ -1,8 +1,8 @@
 use Rattle.std.proofs.Common.{◌≡◌, ℕ, ◌≤◌, length, take, reverse, vec_items, vec_len, vec_capacity}
 use Rattle.table.specs.Shown.{model, store_in}
-use Rattle.histories.specs.Meant.{calls_of, answers_of, standings_of}
-use Rattle.histories.specs.Told.{told}
-use Rattle.histories.proofs.Telling.{Counted}
+use Rattle.histories.specs.CallViews.{calls_of, answers_of, progresses_of}
+use Rattle.histories.specs.Replies.{paired}
+use Rattle.histories.proofs.Replying.{Counted}
 use Rattle.histories.proofs.play.play.Given as goal
 
 abbrev pub invariant-loop-call : goal.invariant-loop-call
@@ -11,4 +11,4 @@ invariant-loop-call g l =
     (vec_len l.replies ≡ l.call-index)
     × (length l.calls ≤ vec_capacity l.replies)
     × ((j : ℕ)
-    × Counted g.S.Store.behaviour g.B.Bank.meaning (g.S.Store.state l.fn.store) (told (calls_of (take l.call-index l.calls)) (answers_of ys)) (reverse (standings_of ys)) (model l.table j) (store_in l.table))
+    × Counted g.S.Store.behaviour g.B.Bank.meaning (g.S.Store.state l.fn.store) (paired (calls_of (take l.call-index l.calls)) (answers_of ys)) (reverse (progresses_of ys)) (model l.table j) (store_in l.table))

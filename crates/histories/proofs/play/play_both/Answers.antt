@@ -1,6 +1,6 @@
 use Rattle.std.proofs.Common.{vec_items}
-use Rattle.histories.specs.Meant.{calls_of, answers_of, standings_of}
-use Rattle.histories.proofs.Telling.{agreed_by}
+use Rattle.histories.specs.CallViews.{calls_of, answers_of, progresses_of}
+use Rattle.histories.proofs.Replying.{agreed_by}
 use Rattle.histories.proofs.play.play_both.Goals as goal
 
 pub returns : goal.returns
@@ -12,5 +12,5 @@ returns g c =
       second = q;
       agreed = agreed_by g.S.Store.behaviour g.R.Store.behaviour g.B.Bank.meaning g.C.Bank.meaning g.met.B.Bank.lawful g.met.C.Bank.lawful (calls_of c.args.calls.now) (calls_of c.args.other_calls.now)
           (answers_of (vec_items c.in_ok-replies.replies)) (answers_of (vec_items c.in_ok-others.others))
-          (standings_of (vec_items c.in_ok-replies.replies)) (standings_of (vec_items c.in_ok-others.others)) (g.S.Store.state c.args.store) (g.R.Store.state c.args.other_store) p q;
+          (progresses_of (vec_items c.in_ok-replies.replies)) (progresses_of (vec_items c.in_ok-others.others)) (g.S.Store.state c.args.store) (g.R.Store.state c.args.other_store) p q;
     }

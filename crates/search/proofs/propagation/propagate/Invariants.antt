@@ -9,5 +9,5 @@ abbrev pub invariant-loop : goal.invariant-loop
 invariant-loop g l =
     Ready g.B.Bank.meaning (rows_of l.rows) l.initial.sets
     → (rounds g.B.Bank.meaning (rows_of l.rows) (suc (l.end - l.counter)) l.sets ≡ propagated g.B.Bank.meaning (rows_of l.rows) l.initial.sets)
-    × Stable g.B.Bank.meaning (rows_of (drop l.quiet l.rows)) l.sets
+    × Stable g.B.Bank.meaning (rows_of (drop l.stable l.rows)) l.sets
     × Ready g.B.Bank.meaning (rows_of l.rows) l.sets

@@ -10,7 +10,7 @@ use Rattle.search.specs.Rounds.{due_of, is_emptied}
 use Rattle.search.proofs.Boxes.{proper_full}
 use Rattle.search.proofs.PropagationFacts.{turn_ready}
 use Rattle.search.proofs.Scans.{Turned, round_idle, round_more}
-use Rattle.search.proofs.Quiet.{Going, going_idle, going_over, going_ends, going_stops, accepted_row}
+use Rattle.search.proofs.StableRows.{Going, going_idle, going_over, going_ends, going_stops, accepted_row}
 use Rattle.search.proofs.propagation.run_round.Goals as goal
 use Rattle.search.proofs.propagation.run_round.Goals.{then-turn+else-has_empty, else-turn}
 
@@ -28,10 +28,10 @@ loop-i-preserved g c = λ h s.
     let t = c.turn.new.sets in
     let taken = accepted_row m rows _ i r now.2.accepted c.loop-i-test.true c.index-rows-i.is in
     let w : Turned m rows i r u t c.turn.result =
-    record { inside = c.loop-i-test.true; row_is = c.index-rows-i.is; left = c.turn.ensures.after; told = c.turn.ensures.value taken now.2.proper } in
+    record { inside = c.loop-i-test.true; row_is = c.index-rows-i.is; left = c.turn.ensures.after; paired = c.turn.ensures.value taken now.2.proper } in
     let left = λ (next : RoundEnd) (end : ℕ).
     (round_from m (is_some (due_of next)) (rows_of (drop (i + 1) rows)) t ≡ round m (rows_of rows) c.args.sets.now)
-    × Going m rows c.args.quiet (i + 1) t (due_of next) end
+    × Going m rows c.args.stable (i + 1) t (due_of next) end
     × Ready m (rows_of rows) t
     × (is_emptied next ≡ false) in
     elim c.if-turn.branch [
@@ -44,10 +44,10 @@ loop-i-preserved g c = λ h s.
             refl,
           ))
       | else-turn v ↦ (
-          let idle : t ≡ u = same_is t u (not-false (same t u) (sym w.told ∙ v.if-turn.false)) in
+          let idle : t ≡ u = same_is t u (not-false (same t u) (sym w.paired ∙ v.if-turn.false)) in
           subst (λ d. left d c.if-turn.end) (sym v.next-is) (subst (left c.loop-i.next) (sym v.end-is) (
             sym (round_idle m (is_some (due_of c.loop-i.next)) rows i r u t c.turn.result w v.if-turn.false) ∙ now.0,
-            going_idle m rows c.args.quiet i r u t c.turn.result (due_of c.loop-i.next) c.loop-i.end w v.if-turn.false now.1,
+            going_idle m rows c.args.stable i r u t c.turn.result (due_of c.loop-i.next) c.loop-i.end w v.if-turn.false now.1,
             subst (Ready m (rows_of rows)) (sym idle) now.2,
             now.3,
           )))
@@ -62,18 +62,18 @@ returns-then-has_empty-clause-done g c = λ h s.
     let t = c.turn.new.sets in
     let taken = accepted_row m rows _ i c.index-rows-i.result now.2.accepted c.loop-i-test.true c.index-rows-i.is in
     let w : Turned m rows i c.index-rows-i.result c.loop-i.sets t true =
-    record { inside = c.loop-i-test.true; row_is = c.index-rows-i.is; left = c.turn.ensures.after; told = sym c.if-turn.true ∙ c.turn.ensures.value taken now.2.proper } in
-    going_stops m rows c.args.quiet i c.index-rows-i.result c.args.sets.now c.loop-i.sets t (due_of c.loop-i.next) w (sym c.has_empty.ensures ∙ c.if-has_empty.true) now.0
+    record { inside = c.loop-i-test.true; row_is = c.index-rows-i.is; left = c.turn.ensures.after; paired = sym c.if-turn.true ∙ c.turn.ensures.value taken now.2.proper } in
+    going_stops m rows c.args.stable i c.index-rows-i.result c.args.sets.now c.loop-i.sets t (due_of c.loop-i.next) w (sym c.has_empty.ensures ∙ c.if-has_empty.true) now.0
 
 pub returns-then-i-end-clause-done : goal.returns-then-i-end-clause-done
 returns-then-i-end-clause-done g c = λ h s.
     let now = c.loop-i.invariant h s in
-    going_ends g.B.Bank.meaning c.args.rows.now c.args.quiet c.loop-i.i c.args.sets.now c.loop-i.sets (due_of c.loop-i.next) c.loop-i.end now.1 c.if-i-end.true now.0
+    going_ends g.B.Bank.meaning c.args.rows.now c.args.stable c.loop-i.i c.args.sets.now c.loop-i.sets (due_of c.loop-i.next) c.loop-i.end now.1 c.if-i-end.true now.0
 
 pub returns-after-loop-i-clause-done : goal.returns-after-loop-i-clause-done
 returns-after-loop-i-clause-done g c = λ h s.
     let now = c.loop-i.invariant h s in
-    going_over g.B.Bank.meaning c.args.rows.now c.args.quiet c.loop-i.i c.args.sets.now c.loop-i.sets (due_of c.loop-i.next) c.loop-i.end now.1 c.loop-i-test.false now.0
+    going_over g.B.Bank.meaning c.args.rows.now c.args.stable c.loop-i.i c.args.sets.now c.loop-i.sets (due_of c.loop-i.next) c.loop-i.end now.1 c.loop-i-test.false now.0
 
 pub returns-then-i-end-clause-emptied : goal.returns-then-i-end-clause-emptied
 returns-then-i-end-clause-emptied g c = λ h s. let now = c.loop-i.invariant h s in now.3 ∙ sym (proper_full c.loop-i.sets now.2.proper)

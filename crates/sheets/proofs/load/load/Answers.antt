@@ -2,7 +2,7 @@ use Rattle.std.proofs.Common.{ap}
 use Rattle.rows.specs.Bytes.{Bytes}
 use Rattle.table.specs.Shown.{model, store_in}
 use Rattle.sheets.proofs.Steps.{wiped}
-use Rattle.sheets.proofs.LawsHold.{Loaded, answers, leaves, lasts, loads_back}
+use Rattle.sheets.proofs.LawsHold.{Loaded, answers, leaves, history, loads_back}
 use Rattle.sheets.proofs.load.load.Goals as goal
 
 pub read_records-result-requires : goal.read_records-result-requires
@@ -35,5 +35,5 @@ returns g c =
       value = answers st m L bs loaded;
       after = left;
       back = loads_back m L bs b (model u 0) left.table;
-      lasts = lasts st m L bs loaded (model t);
+      history = history st m L bs loaded (model t);
     }

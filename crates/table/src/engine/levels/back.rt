@@ -22,7 +22,7 @@ impl Levels {
         requires rows { length rows.now ≤ most_rows }
         ensures width { self.new.width ≡ self.old.width }
         ensures few { result ≤ self.old.width }
-        ensures lasts { is_spent (listed self.new) ≡ false }
+        ensures history { is_spent (listed self.new) ≡ false }
         ensures backs { Backed S.Store.behaviour B.Bank.meaning (rows_of rows.now) (listed self.old) (S.Store.state store.old) (listed self.new) (S.Store.state store.new) result }
     {
         let mut exhausted = 0;

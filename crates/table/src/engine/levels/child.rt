@@ -13,7 +13,7 @@ impl Levels {
     pub(crate) fn enter_next(&mut self, voices: &[ValueSet], sets: &mut [ValueSet])
         requires voices { length voices.now ≡ self.old.width }
         requires width { length sets.old ≡ self.old.width }
-        requires lasts { is_spent (listed self.old) ≡ false }
+        requires history { is_spent (listed self.old) ≡ false }
         ensures width { self.new.width ≡ self.old.width }
         ensures list { listed self.new ≡ tried (listed self.old) }
         ensures after { sets.new ≡ next_sets voices.now (listed self.old) }

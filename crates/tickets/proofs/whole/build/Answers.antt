@@ -15,7 +15,7 @@ returns-in_err-ticket g c =
     let err : BuildRefusal → Result (Unit {0}) BuildRefusal = λ x. Err x in
     let b = built_not m c.args.letter c.args.body.now c.args.memory.now c.args.members.now t t c.from_residual.result c.begin.new.memory f refl
     (p.1 ∙ ap err p.2) r.0 r.1 in
-    record { value = b.value; does = b.does; lasts = b.lasts; memory = b.memory }
+    record { value = b.value; does = b.does; history = b.history; memory = b.memory }
 
 pub returns-in_err-given : goal.returns-in_err-given
 returns-in_err-given g c =
@@ -31,7 +31,7 @@ returns-in_err-given g c =
     let err : BuildRefusal → Result (Unit {0}) BuildRefusal = λ x. Err x in
     let b = built_not m c.args.letter c.args.body.now mem c.args.members.now t t c.from_residual-in_err-given.result c.give_members.new.memory d.fault refl
     (p.1 ∙ ap err p.2) r f.0 in
-    record { value = b.value; does = b.does; lasts = b.lasts; memory = b.memory }
+    record { value = b.value; does = b.does; history = b.history; memory = b.memory }
 
 pub returns-in_err-close : goal.returns-in_err-close
 returns-in_err-close g c =
@@ -40,13 +40,13 @@ returns-in_err-close g c =
     let b = built_by g.B.Bank.meaning c.args.letter c.args.body.now c.args.memory.now c.args.members.now c.args.table.now c.close.new.table
     c.begin.new.memory c.give_members.new.memory c.in_ok-ticket.ticket c.in_ok-given.given (Err c.in_err-close.field-0.0) c.from_residual-in_err-close.result
     (p.1 ∙ ap err p.2) c.in_ok-ticket.ensures.value c.in_ok-ticket.ensures.after c.in_ok-given.ensures.value c.in_ok-given.ensures.after
-    (c.give_members.auto.memory ∙ c.begin.auto.memory) c.in_err-close.ensures.back c.in_err-close.ensures.does c.in_err-close.ensures.lasts in
-    record { value = b.value; does = b.does; lasts = b.lasts; memory = b.memory }
+    (c.give_members.auto.memory ∙ c.begin.auto.memory) c.in_err-close.ensures.back c.in_err-close.ensures.does c.in_err-close.ensures.history in
+    record { value = b.value; does = b.does; history = b.history; memory = b.memory }
 
 pub returns : goal.returns
 returns g c =
     let b = built_by g.B.Bank.meaning c.args.letter c.args.body.now c.args.memory.now c.args.members.now c.args.table.now c.close.new.table
     c.begin.new.memory c.give_members.new.memory c.in_ok-ticket.ticket c.in_ok-given.given (Ok c.in_ok-close.field-0) (Ok c.in_ok-close.field-0)
     refl c.in_ok-ticket.ensures.value c.in_ok-ticket.ensures.after c.in_ok-given.ensures.value c.in_ok-given.ensures.after
-    (c.give_members.auto.memory ∙ c.begin.auto.memory) c.in_ok-close.ensures.back c.in_ok-close.ensures.does c.in_ok-close.ensures.lasts in
-    record { value = b.value; does = b.does; lasts = b.lasts; memory = b.memory }
+    (c.give_members.auto.memory ∙ c.begin.auto.memory) c.in_ok-close.ensures.back c.in_ok-close.ensures.does c.in_ok-close.ensures.history in
+    record { value = b.value; does = b.does; history = b.history; memory = b.memory }

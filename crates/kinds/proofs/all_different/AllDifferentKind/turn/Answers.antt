@@ -7,7 +7,7 @@ use Rattle.rows.proofs.Narrowed.{unchanged}
 use Rattle.rows.proofs.Scans.{nobody}
 use Rattle.kinds.proofs.Taking.{takes_more_one, takes_flag}
 use Rattle.sets.specs.Placings.{changed}
-use Rattle.kinds.proofs.Sharing.{passed_over, quiet}
+use Rattle.kinds.proofs.Sharing.{passed_over, stable}
 use Rattle.kinds.proofs.all_different.AllDifferentKind.turn.Goals as goal
 use Rattle.kinds.proofs.all_different.AllDifferentKind.turn.Goals.{then-set_of-shared-ne0, else-set_of-shared-ne0}
 
@@ -46,7 +46,7 @@ pub returns-then-shared-placed-eq0 : goal.returns-then-shared-placed-eq0
 returns-then-shared-placed-eq0 c =
     let s = c.args.sets.now in
     let small : Small s = λ i. search rules in
-    let none = quiet c.members-members.result.now c.shared_and_placed-shared.result.0 c.shared_and_placed-shared.result.1 s small
+    let none = stable c.members-members.result.now c.shared_and_placed-shared.result.0 c.shared_and_placed-shared.result.1 s small
     c.shared_and_placed-shared.ensures.shared c.shared_and_placed-shared.ensures.placed c.if-shared-placed-eq0.true
     in
     record { after = sym (ap (λ l. takes l l s) (sym c.members-members.ensures) ∙ none); value = sym (unchanged s) }

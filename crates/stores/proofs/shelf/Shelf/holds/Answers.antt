@@ -14,7 +14,7 @@ stop s key at w h = walk_stops s.words.now s.used key at (omega (arith, s.within
 -- the comparison with the held key
 compared : (all : List ℕ) (n : ℕ) (key : List ℕ) (at : ℕ) → (p : Stop all n key at) → get_or all (at - 1) 0 % 65536 ≡ length key → same key p.held ≡ bytes_eq key (take (at + length key - at) (drop at all))
 compared all n key at p h =
-    let long : length p.held ≡ at + length key - at = omega (arith, h, p.tells.long) in
+    let long : length p.held ≡ at + length key - at = omega (arith, h, p.fields.long) in
     ap (same key) (sym p.words ∙ ap (λ (m : ℕ). take m (drop at all)) long) ∙ same_pointwise key (take (at + length key - at) (drop at all))
 
 pub loop-at-init : goal.loop-at-init
@@ -39,7 +39,7 @@ pub slice_bounds-eq-end : goal.slice_bounds-eq-end
 slice_bounds-eq-end c =
     let p = stop c.args.self.now c.args.key.now c.loop-at.at c.loop-at.invariant c.loop-at-test.true in
     let h = c.if-header-key.true in
-    omega (arith, p.inside, p.tells.long, c.args.self.now.within)
+    omega (arith, p.inside, p.fields.long, c.args.self.now.within)
 
 pub returns-then-eq : goal.returns-then-eq
 returns-then-eq c =
@@ -49,15 +49,15 @@ returns-then-eq c =
 pub loop-at-smaller : goal.loop-at-smaller
 loop-at-smaller c =
     let p = stop c.args.self.now c.args.key.now c.loop-at.at c.loop-at.invariant c.loop-at-test.true in
-    subst (λ (x : ℕ). x < c.loop-at.at) (sym p.tells.on) p.lower
+    subst (λ (x : ℕ). x < c.loop-at.at) (sym p.fields.on) p.lower
 
 pub loop-at-preserved : goal.loop-at-preserved
 loop-at-preserved c =
     let p = stop c.args.self.now c.args.key.now c.loop-at.at c.loop-at.invariant c.loop-at-test.true in
-    subst (Walk (used_words c.args.self.now) c.args.key.now) (sym p.tells.on) (p.next (elim c.else-header-hash.branch [
+    subst (Walk (used_words c.args.self.now) c.args.key.now) (sym p.fields.on) (p.next (elim c.else-header-hash.branch [
       | else-header-hash-via-then-header-hash+then-header-key+else-eq w ↦ compared c.args.self.now.words.now c.args.self.now.used c.args.key.now c.loop-at.at p w.if-header-key.true ∙ sym w.if-eq.ensures
-      | else-header-hash-via-then-header-hash+else-header-key w ↦ same_not c.args.key.now p.held (λ e. w.if-header-key.false (p.tells.long ∙ ap length (sym e)))
-      | else-header-hash-via-else-header-hash w ↦ same_not c.args.key.now p.held (λ e. w.if-header-hash.false (p.tells.print ∙ ap (λ (x : List ℕ). hash_of x / 4294967296) (sym e) ∙ ap (λ (x : ℕ). x / 4294967296) (sym c.requires)))
+      | else-header-hash-via-then-header-hash+else-header-key w ↦ same_not c.args.key.now p.held (λ e. w.if-header-key.false (p.fields.long ∙ ap length (sym e)))
+      | else-header-hash-via-else-header-hash w ↦ same_not c.args.key.now p.held (λ e. w.if-header-hash.false (p.fields.print ∙ ap (λ (x : List ℕ). hash_of x / 4294967296) (sym e) ∙ ap (λ (x : ℕ). x / 4294967296) (sym c.requires)))
     ]))
 
 pub returns : goal.returns

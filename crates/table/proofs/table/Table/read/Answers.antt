@@ -6,7 +6,7 @@ use Rattle.search.specs.Calls.{Answer}
 use Rattle.search.specs.Calls.Call.{read}
 use Rattle.table.specs.Searches.{place, levels_of}
 use Rattle.table.specs.Shown.{model, store_in, rows_in}
-use Rattle.table.proofs.Calling.{lasts_by, declines_by, reads_by, not_found, found_place}
+use Rattle.table.proofs.Calling.{extends_by, declines_by, reads_by, not_found, found_place}
 use Rattle.table.proofs.Judging.{nothing_found, short_buffer, buffer_fits}
 use Rattle.table.proofs.table.Table.read.Goals as goal
 
@@ -18,7 +18,7 @@ returns-in-Stopped g c =
     let b = c.args.out.now in
     let f : Bytes b = λ i l. (c.type_inv.out i).fits in
     let d = declines_by g.S.Store.behaviour m (model t) v (read b) 15 (λ j. nothing_found m (model t j) b (not_found c.outcome.result (place t.search) c.in-Stopped.is c.outcome.ensures)) in
-    record { does = d; lasts = lasts_by g.S.Store.behaviour m g.met.B.Bank.lawful (model t) v (read b) (Answer.refused 15) (model t) v f d; buffer = refl }
+    record { does = d; history = extends_by g.S.Store.behaviour m g.met.B.Bank.lawful (model t) v (read b) (Answer.refused 15) (model t) v f d; buffer = refl }
 
 pub returns-then-out-sets : goal.returns-then-out-sets
 returns-then-out-sets g c =
@@ -31,7 +31,7 @@ returns-then-out-sets g c =
     let e : place s ≡ Place.found (values c.sets-sets.result.now) =
     found_place s.end (vec_items s.sets) (levels_of s) c.in-Found.ensures ∙ ap (λ (x : List ℕ). Place.found (values x)) (sym c.sets-sets.ensures) in
     let d = declines_by g.S.Store.behaviour m (model t) v (read b) 16 (λ j. short_buffer m (model t j) c.sets-sets.result.now b e c.if-out-sets.true) in
-    record { does = d; lasts = lasts_by g.S.Store.behaviour m g.met.B.Bank.lawful (model t) v (read b) (Answer.refused 16) (model t) v f d; buffer = refl }
+    record { does = d; history = extends_by g.S.Store.behaviour m g.met.B.Bank.lawful (model t) v (read b) (Answer.refused 16) (model t) v f d; buffer = refl }
 
 pub returns : goal.returns
 returns g c =
@@ -47,6 +47,6 @@ returns g c =
     (λ j. buffer_fits m (model t j) c.sets-sets.result.now b e c.if-out-sets.false) in
     record {
       does = d;
-      lasts = lasts_by g.S.Store.behaviour m g.met.B.Bank.lawful (model t) v (read b) (Answer.wrote (length c.sets-sets.result.now) c.write_values.new.out) (model t) v f d;
+      history = extends_by g.S.Store.behaviour m g.met.B.Bank.lawful (model t) v (read b) (Answer.wrote (length c.sets-sets.result.now) c.write_values.new.out) (model t) v f d;
       buffer = tt;
     }

@@ -25,20 +25,20 @@ stable_round m seen (r ∷ rows) s h =
 -- Where the turns are at row i of a round that ends before `end`: as long as none has changed the sets, the rows from `quiet` on leave them as they are; and where one has, the
 -- last such before row k, those from k on leave them so if those from i on do.
 abbrev pub Going : Meaning → List Row → ℕ → ℕ → List ℕ → Option ℕ → ℕ → Type 0
-Going m rows quiet i s due end =
+Going m rows stable i s due end =
     MatchOption due
-    ((end ≡ quiet) × Stable m (rows_of (drop quiet rows)) s)
+    ((end ≡ stable) × Stable m (rows_of (drop stable rows)) s)
     (λ k. (end ≡ length rows) × (Stable m (rows_of (drop i rows)) s → Stable m (rows_of (drop k rows)) s))
 
-module _ (m : Meaning) (rows : List Row) (quiet : ℕ) where
+module _ (m : Meaning) (rows : List Row) (stable : ℕ) where
   -- a turn that leaves the sets as they are
-  pub going_idle : (i : ℕ) (r : Row) (s t : List ℕ) (c : Bool) (due : Option ℕ) (end : ℕ) → Turned m rows i r s t c → c ≡ false → Going m rows quiet i s due end
-      → Going m rows quiet (i + 1) t due end
+  pub going_idle : (i : ℕ) (r : Row) (s t : List ℕ) (c : Bool) (due : Option ℕ) (end : ℕ) → Turned m rows i r s t c → c ≡ false → Going m rows stable i s due end
+      → Going m rows stable (i + 1) t due end
   going_idle i r s t c None end w e h =
-      let same_sets : t ≡ s = same_is t s (not-false (same t s) (sym w.told ∙ e)) in
-      (h.0, subst (Stable m (rows_of (drop quiet rows))) (sym same_sets) h.1)
+      let same_sets : t ≡ s = same_is t s (not-false (same t s) (sym w.paired ∙ e)) in
+      (h.0, subst (Stable m (rows_of (drop stable rows))) (sym same_sets) h.1)
   going_idle i r s t c (Some k) end w e h =
-      let same_sets : t ≡ s = same_is t s (not-false (same t s) (sym w.told ∙ e)) in
+      let same_sets : t ≡ s = same_is t s (not-false (same t s) (sym w.paired ∙ e)) in
       let here : m.turn (row_of r) s ≡ s = sym w.left ∙ same_sets in (
         h.0,
         λ later.
@@ -49,18 +49,18 @@ module _ (m : Meaning) (rows : List Row) (quiet : ℕ) where
       )
 
   -- where no row is left
-  pub going_over : (i : ℕ) (s t : List ℕ) (due : Option ℕ) (end : ℕ) → Going m rows quiet i t due end → length rows ≤ i
+  pub going_over : (i : ℕ) (s t : List ℕ) (due : Option ℕ) (end : ℕ) → Going m rows stable i t due end → length rows ≤ i
       → round_from m (is_some due) (rows_of (drop i rows)) t ≡ round m (rows_of rows) s → RoundDone m rows s due t
   going_over i s t due end h past e =
       let is : record { sets = t; again = is_some due } ≡ round m (rows_of rows) s = sym (round_none m (is_some due) rows i t past) ∙ e in
       record { after = ap (λ (x : Round). x.sets) is; value = ap (λ (x : Round). x.again) is; rest = go due h }
     where
-      go : (due : Option ℕ) → Going m rows quiet i t due end → IfSome due (λ k. Stable m (rows_of (drop k rows)) t)
+      go : (due : Option ℕ) → Going m rows stable i t due end → IfSome due (λ k. Stable m (rows_of (drop k rows)) t)
       go None h = tt
       go (Some k) h = h.1 (subst (λ l. Stable m (rows_of l) t) (sym (at_drop_all (λ l. l) rows i past)) tt)
 
   -- what a round comes to that ends at row i
-  pub going_ends : (i : ℕ) (s t : List ℕ) (due : Option ℕ) (end : ℕ) → Going m rows quiet i t due end → i ≡ end
+  pub going_ends : (i : ℕ) (s t : List ℕ) (due : Option ℕ) (end : ℕ) → Going m rows stable i t due end → i ≡ end
       → round_from m (is_some due) (rows_of (drop i rows)) t ≡ round m (rows_of rows) s → RoundDone m rows s due t
   going_ends i s t None end h l e =
       let still : Stable m (rows_of (drop i rows)) t = subst (λ n. Stable m (rows_of (drop n rows)) t) (sym (l ∙ h.0)) h.1 in

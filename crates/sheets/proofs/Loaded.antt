@@ -16,12 +16,12 @@ use Rattle.search.specs.Calls.Answer.{done}
 use Rattle.search.specs.Histories.{History}
 use Rattle.search.proofs.AnyStore.{history_any}
 use Rattle.search.proofs.HistoryFacts.{none_fits, fit}
-use Rattle.search.proofs.OverEvery.{limits_stand}
+use Rattle.search.proofs.OverEvery.{limits_hold}
 use Rattle.sheets.specs.declared.fault.Layer.{Layer}
 use Rattle.sheets.specs.Sheets.{low_first, number_in, voice_record, voice_records, row_records, records, sheet}
-use Rattle.sheets.specs.Reading.{Item, item_at, Outcome, read_on, read_from, read_sheet}
+use Rattle.sheets.specs.Reading.{Item, item_at, SheetReading, read_on, read_from, read_sheet}
 use Rattle.sheets.specs.Reading.Item.{last, voice, row, fault}
-use Rattle.sheets.specs.Reading.Outcome.{accepted, refused}
+use Rattle.sheets.specs.Reading.SheetReading.{accepted, refused}
 use Rattle.sheets.specs.Laws.{Holdable, FirstFault, declared_after, posted_after}
 use Rattle.sheets.proofs.Numbers.{low_first_of_number, number_fits}
 use Rattle.sheets.proofs.Items.{VoiceHere, RowHere, voice_here, row_here, last_here}
@@ -159,7 +159,7 @@ module _ (m : Meaning) (L : Laws m) (whole : List ℕ) where
   pub holdable : {voices : List ℕ} {rows : List RowData} → Fills bare m tt voices rows tt → Holdable m voices rows
   holdable {voices} {rows} f =
       let H = f tt [] (History.made tt tt) in
-      record { limited = limits_stand bare m tt (posted_after (declared_after [] voices) rows) (begun voices rows) tt H; all_accepted = (fit m L (history_any bare m H)).okay }
+      record { limited = limits_hold bare m tt (posted_after (declared_after [] voices) rows) (begun voices rows) tt H; all_accepted = (fit m L (history_any bare m H)).okay }
 
   -- the first fault
   abbrev pub fault_at : (at : ℕ) (voices : List ℕ) (rows : List RowData) (bs : List ℕ) (k o : ℕ) (layer : Layer) → BareRead m whole at voices rows bs
@@ -176,27 +176,27 @@ module _ (m : Meaning) (L : Laws m) (whole : List ℕ) where
   }
 
   -- what reading the whole comes to: voices and rows that a table can have, of the same bytes, or the first fault
-  abbrev pub Told : Outcome → Type 0
-  Told (accepted voices rows) = Holdable m voices rows × (sheet voices rows ≡ whole)
-  Told (refused number place layer) = FirstFault m whole number place layer
+  abbrev pub ReadRight : SheetReading → Type 0
+  ReadRight (accepted voices rows) = Holdable m voices rows × (sheet voices rows ≡ whole)
+  ReadRight (refused number place layer) = FirstFault m whole number place layer
 
-  told_on : (n at : ℕ) (voices : List ℕ) (rows : List RowData) (bs : List ℕ) → length bs < suc n → BareRead m whole at voices rows bs
-      → ((at : ℕ) (voices : List ℕ) (rows : List RowData) (bs : List ℕ) → length bs < n → BareRead m whole at voices rows bs → Told (read_from m n at voices rows bs))
-      → (i : Item) → item_at m voices rows bs ≡ i → Told (read_on m (read_from m n) at voices rows bs i)
-  told_on n at voices rows bs l R next last f =
+  paired_onto : (n at : ℕ) (voices : List ℕ) (rows : List RowData) (bs : List ℕ) → length bs < suc n → BareRead m whole at voices rows bs
+      → ((at : ℕ) (voices : List ℕ) (rows : List RowData) (bs : List ℕ) → length bs < n → BareRead m whole at voices rows bs → ReadRight (read_from m n at voices rows bs))
+      → (i : Item) → item_at m voices rows bs ≡ i → ReadRight (read_on m (read_from m n) at voices rows bs i)
+  paired_onto n at voices rows bs l R next last f =
       (holdable R.fills, ap (λ (x : List ℕ). records voices rows ++ x) (sym (last_here m voices rows bs f)) ∙ R.whole_is)
-  told_on n at voices rows bs l R next (voice s) f =
+  paired_onto n at voices rows bs l R next (voice s) f =
       let V = voice_here m voices rows bs s f in
       next (at + 9) (voices ++ (s ∷ [])) rows (drop 9 bs) (omega (arith, l, V.long, length-drop 9 bs)) (one_voice bare m whole tt at voices rows bs tt tt s R V tt)
-  told_on n at voices rows bs l R next (row r) f =
+  paired_onto n at voices rows bs l R next (row r) f =
       let V = row_here m voices rows bs r f in
       next (at + length r) voices (rows ++ (decode m r ∷ [])) (drop (length r) bs)
       (omega (arith, l, some_row m (begun voices rows) r V.passes, length-drop (length r) bs, ap length V.front, length-take (length r) bs)) (one_row bare m whole tt at voices rows bs r tt tt R V tt)
-  told_on n at voices rows bs l R next (fault k o layer) f = fault_at at voices rows bs k o layer R f
+  paired_onto n at voices rows bs l R next (fault k o layer) f = fault_at at voices rows bs k o layer R f
 
-  told_from : (n at : ℕ) (voices : List ℕ) (rows : List RowData) (bs : List ℕ) → length bs < n → BareRead m whole at voices rows bs → Told (read_from m n at voices rows bs)
-  told_from zero at voices rows bs l R = absurd (omega (arith, l))
-  told_from (suc n) at voices rows bs l R = told_on n at voices rows bs l R (told_from n) (item_at m voices rows bs) refl
+  read_right_from : (n at : ℕ) (voices : List ℕ) (rows : List RowData) (bs : List ℕ) → length bs < n → BareRead m whole at voices rows bs → ReadRight (read_from m n at voices rows bs)
+  read_right_from zero at voices rows bs l R = absurd (omega (arith, l))
+  read_right_from (suc n) at voices rows bs l R = paired_onto n at voices rows bs l R (read_right_from n) (item_at m voices rows bs) refl
 
-  pub told : Bytes whole → Told (read_sheet m whole)
-  told f = told_from (suc (length whole)) 0 [] [] whole (omega arith) (none_read bare m whole tt f)
+  pub read_right : Bytes whole → ReadRight (read_sheet m whole)
+  read_right f = read_right_from (suc (length whole)) 0 [] [] whole (omega arith) (none_read bare m whole tt f)

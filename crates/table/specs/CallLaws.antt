@@ -4,8 +4,8 @@ use Rattle.rows.specs.Rows.{Meaning}
 use Rattle.stores.specs.Behaviours.{Behaviour}
 use Rattle.search.specs.Calls.{Table, Call, Answer, Does}
 use Rattle.search.specs.Calls.Call.{declare, post, solve, read, wipe}
-use Rattle.search.specs.Histories.{History, declared, posted}
-use Rattle.search.specs.Results.{Stands, Says, Reads}
+use Rattle.search.specs.Histories.{History, declared_voices, posted_rows}
+use Rattle.search.specs.Results.{Invariant, SolveMeans, Reads}
 
 -- A call takes the table t and its store's state s to the table u and the state r, however many keys were lost before; `lost` says how many are lost then.
 pub record Done (b : Behaviour) (m : Meaning) (t : ℕ → Table) (s : b.State) (c : Call) (a : Answer) (u : ℕ → Table) (r : b.State) : Type 0 where
@@ -13,27 +13,27 @@ pub record Done (b : Behaviour) (m : Meaning) (t : ℕ → Table) (s : b.State) 
   pub does : (j : ℕ) → Does b m (t j) s c a (u (lost j)) r
 
 -- what an answer of Read says of the calls before it
-abbrev pub ReadTells : Meaning → List (Call × Answer) → List ℕ → Answer → Type 0
-ReadTells m h buffer Answer.done = Unit {0}
-ReadTells m h buffer (Answer.refused n) = Unit {0}
-ReadTells m h buffer (Answer.found p) = Unit {0}
-ReadTells m h buffer Answer.none = Unit {0}
-ReadTells m h buffer Answer.stopped = Unit {0}
-ReadTells m h buffer (Answer.wrote n b) = Reads m (declared h) (posted m h) buffer n b
+abbrev pub ReadMeans : Meaning → List (Call × Answer) → List ℕ → Answer → Type 0
+ReadMeans m h buffer Answer.done = Unit {0}
+ReadMeans m h buffer (Answer.refused n) = Unit {0}
+ReadMeans m h buffer (Answer.found p) = Unit {0}
+ReadMeans m h buffer Answer.none = Unit {0}
+ReadMeans m h buffer Answer.stopped = Unit {0}
+ReadMeans m h buffer (Answer.wrote n b) = Reads m (declared_voices h) (posted_rows m h) buffer n b
 
 -- What an answer says of the voices and rows that the calls before it gave: of Solve, the least lawful placing, or that there is none; of Read, that
 -- this placing was written.
-abbrev pub Tells : Meaning → List (Call × Answer) → Call → Answer → Type 0
-Tells m h (declare s) a = Unit {0}
-Tells m h (post bs) a = Unit {0}
-Tells m h (solve b) a = Says m (declared h) (posted m h) a
-Tells m h (read buffer) a = ReadTells m h buffer a
-Tells m h wipe a = Unit {0}
+abbrev pub AnswerMeans : Meaning → List (Call × Answer) → Call → Answer → Type 0
+AnswerMeans m h (declare s) a = Unit {0}
+AnswerMeans m h (post bs) a = Unit {0}
+AnswerMeans m h (solve b) a = SolveMeans m (declared_voices h) (posted_rows m h) a
+AnswerMeans m h (read buffer) a = ReadMeans m h buffer a
+AnswerMeans m h wipe a = Unit {0}
 
 -- Whatever the calls were that led to the table t and the state s, from a store in whatever state g: with this call they lead to the table u and the state r; what
 -- stands after every history stands then, and the answer is right.
-pub record Lasts (b : Behaviour) (m : Meaning) (t : ℕ → Table) (s : b.State) (c : Call) (a : Answer) (u : ℕ → Table) (r : b.State) : Type 0 where
+pub record ExtendsHistories (b : Behaviour) (m : Meaning) (t : ℕ → Table) (s : b.State) (c : Call) (a : Answer) (u : ℕ → Table) (r : b.State) : Type 0 where
   pub lost : ℕ → ℕ
   pub history : (g : b.State) (h : List (Call × Answer)) (j : ℕ) → History b m g h (t j) s → History b m g ((c, a) ∷ h) (u (lost j)) r
-  pub stands : (g : b.State) (h : List (Call × Answer)) (j : ℕ) → History b m g h (t j) s → Stands m (u (lost j)) (b.view r)
-  pub tells : (g : b.State) (h : List (Call × Answer)) (j : ℕ) → History b m g h (t j) s → Tells m h c a
+  pub invariant : (g : b.State) (h : List (Call × Answer)) (j : ℕ) → History b m g h (t j) s → Invariant m (u (lost j)) (b.view r)
+  pub means : (g : b.State) (h : List (Call × Answer)) (j : ℕ) → History b m g h (t j) s → AnswerMeans m h c a

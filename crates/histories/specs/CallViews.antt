@@ -8,7 +8,7 @@ use Rattle.histories.specs.declared.call.Call.TheVariants.{Declare, Post, Solve,
 use Rattle.histories.specs.declared.call.Answer.{Answer}
 use Rattle.histories.specs.declared.call.Answer.TheVariants.{Done, Refused, Found, None, Stopped, Wrote}
 use Rattle.histories.specs.declared.reply.Reply.{Reply}
-use Rattle.histories.specs.declared.reply.Standing.{Standing}
+use Rattle.histories.specs.declared.reply.Progress.{Progress}
 
 abbrev pub call_of : Call → calls.Call
 call_of (Declare set) = calls.Call.declare set
@@ -39,9 +39,9 @@ calls_of calls = map call_of calls
 abbrev pub answers_of : List Reply → List calls.Answer
 answers_of replies = map (λ r. answer_of r.answer) replies
 
-abbrev pub standings_of : List Reply → List Standing
-standings_of replies = map (λ r. r.standing) replies
+abbrev pub progresses_of : List Reply → List Progress
+progresses_of replies = map (λ r. r.progress) replies
 
 -- how the search of a table stands
-abbrev pub standing_of : calls.Table → Standing
-standing_of t = record { outcome = outcome_of t.place; opened = t.opened; exhausted = t.exhausted }
+abbrev pub progress_of : calls.Table → Progress
+progress_of t = record { outcome = outcome_of t.place; opened = t.opened; exhausted = t.exhausted }

@@ -1,5 +1,5 @@
 use Rattle.sets.proofs.Lawful.{set_laws}
-use Rattle.sets.proofs.laws_stand.Goals as goal
+use Rattle.sets.proofs.set_laws_hold.Goals as goal
 
 pub returns : goal.returns
 returns c = set_laws

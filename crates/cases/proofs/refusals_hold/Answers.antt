@@ -1,0 +1,5 @@
+use Rattle.cases.proofs.Computed.{refusals_hold}
+use Rattle.cases.proofs.refusals_hold.Goals as goal
+
+pub returns : goal.returns
+returns c = refusals_hold
