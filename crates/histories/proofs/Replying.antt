@@ -77,14 +77,14 @@ solve_inside calls n b e =
 
 module _ (b : Behaviour) (m : Meaning) (L : Laws m) (g : b.State) where
   -- some table and state that a history led to
-  abbrev Reached : List (Call × Answer) → List Progress → Type 0
-  Reached h ks = (t : Table) × (s : b.State) × Counted b m g h ks t s
+  abbrev ReachedSome : List (Call × Answer) → List Progress → Type 0
+  ReachedSome h ks = (t : Table) × (s : b.State) × Counted b m g h ks t s
 
-  without : {c : Call} {a : Answer} {h : List (Call × Answer)} {k : Progress} {ks : List Progress} {t : Table} {s : b.State} → Counted b m g ((c, a) ∷ h) (k ∷ ks) t s → Reached h ks
+  without : {c : Call} {a : Answer} {h : List (Call × Answer)} {k : Progress} {ks : List Progress} {t : Table} {s : b.State} → Counted b m g ((c, a) ∷ h) (k ∷ ks) t s → ReachedSome h ks
   without {ks = ks} (History.then h t u s r c a H f d, e) = let q : progress_after H ≡ ks = cc in (t, s, (H, q))
 
   peeled : (h : List (Call × Answer)) (ks : List Progress) (calls : List Call) (answers : List Answer) (shown : List Progress) → length answers ≡ length calls → length shown ≡ length calls
-      → Reached (paired_onto h calls answers) (reverse_aux shown ks) → Reached h ks
+      → ReachedSome (paired_onto h calls answers) (reverse_aux shown ks) → ReachedSome h ks
   peeled h ks [] answers [] e f r = r
   peeled h ks [] answers (k ∷ shown) e f r = absurd (omega (arith, f))
   peeled h ks (c ∷ calls) [] shown e f r = absurd (omega (arith, e))
@@ -92,7 +92,7 @@ module _ (b : Behaviour) (m : Meaning) (L : Laws m) (g : b.State) where
   peeled h ks (c ∷ calls) (a ∷ answers) (k ∷ shown) e f r = let (t, s, H) = peeled ((c, a) ∷ h) (k ∷ ks) calls answers shown (omega (arith, e)) (omega (arith, f)) r in without H
 
   reached_at : (n : ℕ) (h : List (Call × Answer)) (ks : List Progress) (calls : List Call) (answers : List Answer) (shown : List Progress) → length answers ≡ length calls
-      → length shown ≡ length calls → Reached (paired_onto h calls answers) (reverse_aux shown ks) → Reached (paired_onto h (take n calls) (take n answers)) (reverse_aux (take n shown) ks)
+      → length shown ≡ length calls → ReachedSome (paired_onto h calls answers) (reverse_aux shown ks) → ReachedSome (paired_onto h (take n calls) (take n answers)) (reverse_aux (take n shown) ks)
   reached_at zero h ks calls answers shown e f r = peeled h ks calls answers shown e f r
   reached_at (suc n) h ks [] answers [] e f r = r
   reached_at (suc n) h ks [] answers (k ∷ shown) e f r = absurd (omega (arith, f))
@@ -102,7 +102,7 @@ module _ (b : Behaviour) (m : Meaning) (L : Laws m) (g : b.State) where
 
   -- ---- what holds of them
 
-  reached_by : (h : List (Call × Answer)) (shown : List Progress) → Reached h (reverse shown) → Reached b m g h shown
+  reached_by : (h : List (Call × Answer)) (shown : List Progress) → ReachedSome h (reverse shown) → Reached b m g h shown
   reached_by h shown (t, s, (H, e)) = record { table = t; state = s; history = H; counted = e; invariant = invariant_holds b m L g h t s H }
 
   means_by : {c : Call} {a : Answer} {h : List (Call × Answer)} {t : Table} {s : b.State} → History b m g ((c, a) ∷ h) t s → AnswerMeans m h c a
@@ -110,11 +110,11 @@ module _ (b : Behaviour) (m : Meaning) (L : Laws m) (g : b.State) where
       (extends_by b m L (λ j. t) s c a (λ j. u) r f (record { lost = λ j. 0; does = λ j. d })).means g h 0 H
 
   pub at_next : (calls : List Call) (answers : List Answer) (shown : List Progress) (n : ℕ) → length answers ≡ length calls → length shown ≡ length calls → n < length calls
-      → Reached (paired calls answers) (reverse shown) → Reached ((get_or calls n wipe, get_or answers n done) ∷ first_paired n calls answers) (reverse (take (n + 1) shown))
+      → ReachedSome (paired calls answers) (reverse shown) → ReachedSome ((get_or calls n wipe, get_or answers n done) ∷ first_paired n calls answers) (reverse (take (n + 1) shown))
   at_next calls answers shown n e f h r =
-      subst (λ (x : List (Call × Answer)). Reached x (reverse (take (n + 1) shown))) (first_next calls answers n e h) (reached_at (n + 1) [] [] calls answers shown e f r)
+      subst (λ (x : List (Call × Answer)). ReachedSome x (reverse (take (n + 1) shown))) (first_next calls answers n e h) (reached_at (n + 1) [] [] calls answers shown e f r)
 
-  played_by : (calls : List Call) (answers : List Answer) (shown : List Progress) → length answers ≡ length calls → length shown ≡ length calls → Reached (paired calls answers) (reverse shown)
+  played_by : (calls : List Call) (answers : List Answer) (shown : List Progress) → length answers ≡ length calls → length shown ≡ length calls → ReachedSome (paired calls answers) (reverse shown)
       → Played b m g calls answers shown
   played_by calls answers shown e f r = record {
     answered = e;
@@ -133,9 +133,9 @@ module _ (b : Behaviour) (m : Meaning) (L : Laws m) (g : b.State) where
 
   -- up to a Solve
   pub up_to : (calls : List Call) (answers : List Answer) (shown : List Progress) (n k : ℕ) → Played b m g calls answers shown → get_or calls n wipe ≡ solve k
-      → Reached ((solve k, get_or answers n done) ∷ first_paired n calls answers) (reverse (take (n + 1) shown))
+      → ReachedSome ((solve k, get_or answers n done) ∷ first_paired n calls answers) (reverse (take (n + 1) shown))
   up_to calls answers shown n k p e =
-      subst (λ (c : Call). Reached ((c, get_or answers n done) ∷ first_paired n calls answers) (reverse (take (n + 1) shown))) e
+      subst (λ (c : Call). ReachedSome ((c, get_or answers n done) ∷ first_paired n calls answers) (reverse (take (n + 1) shown))) e
       (at_next calls answers shown n p.answered p.progressed (solve_inside calls n k e) (p.reached.table, p.reached.state, (p.reached.history, p.reached.counted)))
 
 -- ---- two histories
