@@ -20,8 +20,8 @@ returns g c =
     let r = c.load-answer.result in
     let t = c.load-answer.new.table in
     let given = g.S.Store.state c.args.store in
-    let history = c.load-answer.ensures.history in
-    let history = history.history given [] 0 c.in_ok-table.ensures in
+    let extends = c.load-answer.ensures.history in
+    let history = extends.history given [] 0 c.in_ok-table.ensures in
     IfOk-weaker c.written_report.result _ _ (λ text h.
     subst (λ x. Planned st m given x text.items) (sheet_front c.args.sheet.now n few)
     (elim c.if-is_ok.branch [
@@ -33,6 +33,6 @@ returns g c =
           (h ∙ ap (λ x. report_text (load_answer r) (model x 0)) w.table-is ∙ same_report (load_answer r) (model u 0) (model u (d.lost 0)) refl)
       | else-is_ok w ↦
           declined_job st m L given sheet text.items (read_sheet m sheet) r (model t 0) (store_in t)
-          (sym c.is_ok.ensures.value ∙ w.if-is_ok.false) c.load-answer.ensures.value refl history (history.invariant given [] 0 c.in_ok-table.ensures)
+          (sym c.is_ok.ensures.value ∙ w.if-is_ok.false) c.load-answer.ensures.value refl history (extends.invariant given [] 0 c.in_ok-table.ensures)
           (h ∙ ap (λ x. report_text (load_answer r) (model x 0)) w.table-is)
     ])) c.written_report.ensures
