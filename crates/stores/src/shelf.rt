@@ -1,11 +1,27 @@
-// The store in lent memory.
-ghost use Rattle.std.specs.Prelude.{◌≡◌, ◌<◌, ◌≤◌, length, take};
-ghost use Rattle.stores.specs.Shelves.{room_of, Whole, Indexed};
+// The store in borrowed memory.
+ghost use Rattle.std.specs.Prelude.{◌≡◌, ℕ, ◌+◌, ◌<◌, ◌≤◌, ◌==◌, slice_index, [], ◌∷◌, ◌++◌, length, take, drop, IsTrue, true, not};
+ghost use Rattle.stores.specs.Stores.{member, fits};
+ghost use Rattle.stores.specs.Behaviours.{TurnsAway};
+ghost use Rattle.stores.specs.Shelves.{room_of, Whole, Indexed, hash_of, shelved, recent, entry, used_after};
+ghost use Rattle.stores.specs.ShelfLaws.{shelf};
 
-pub mod ops;
+use crate::store::{Store, Stored};
+use crate::words::hash_words;
 
 // How many buckets the keys are divided among.
 const BUCKETS: usize = 1024;
+
+// The most words that a shelf uses.
+const MOST_WORDS: usize = 65536;
+
+// A header's low part, the key's length, is below this, and so is the part above, the link.
+const LENGTHS: u64 = 1 << 16;
+
+// Both together are below this, and the high part of the key's hash is above.
+const LINKS: u64 = 1 << 32;
+
+// A hash divided by this is below the number of buckets.
+const HASHES: u64 = 1 << 54;
 
 // Of the lent words the first `used` hold keys, each behind its header; the first 65,536 at most are ever used. Each bucket has a chain of its keys, from the newest
 // to the oldest: its head says where the newest is, and each header where the one before is.
@@ -18,4 +34,132 @@ pub struct Shelf<'a> {
     ghost whole: { Whole (take used words.now) },
     ghost buckets: { length heads ≡ 1024 },
     ghost indexed: { Indexed heads (take used words.now) },
+}
+
+// The heads where no key is held.
+fn no_heads() -> [u16; BUCKETS]
+    ensures { (b : ℕ) → b < 1024 → slice_index result b ≡ 0 }
+{
+    [0; BUCKETS]
+}
+
+impl<'a> Shelf<'a> {
+    ghost use Rattle.stores.specs.Shown.{used_words, free};
+
+    // A shelf with no keys over the lent words.
+    pub fn new(words: &'a mut [u64]) -> Shelf<'a>
+        ensures used { used_words result ≡ [] }
+        ensures words { result.words.now ≡ words.old }
+        ensures same { result.words.ghost_name ≡ words.entry.ghost_name }
+    {
+        Shelf {
+            words,
+            heads: no_heads(),
+            used: 0,
+        }
+    }
+
+    // Whether a key of so many words fits.
+    fn fits(&self, words: usize) -> bool
+        ensures { result ≡ fits words (free self.now) }
+    {
+        words > 0 && words < self.words.len().min(MOST_WORDS) - self.used
+    }
+
+    // Whether the key is held: a walk along its bucket's chain. A key is compared only where its header tells the same length and the same high part of the hash.
+    fn holds(&self, hash: u64, key: &[u64]) -> bool
+        requires { hash ≡ hash_of key.now }
+        ensures { result ≡ member key.now (shelved (used_words self.now)) }
+    {
+        let mut at = self.heads[(hash / HASHES) as usize] as usize;
+        while at > 0 {
+            let header = self.words[at - 1];
+            if header / LINKS == hash / LINKS
+                && header % LENGTHS == key.len() as u64
+                && key == &self.words[at..at + key.len()]
+            {
+                return true;
+            }
+            at = (header / LENGTHS % LENGTHS) as usize;
+        }
+        false
+    }
+
+    // Writes a header and the key behind it, past the words that are used.
+    fn write(&mut self, header: u64, key: &[u64])
+        requires { self.old.used + 1 + length key.now ≤ length self.old.words.now }
+        ensures used { self.new.used ≡ self.old.used }
+        ensures heads { self.new.heads ≡ self.old.heads }
+        ensures words { self.new.words.now ≡ (used_words self.old ++ (header ∷ key.now)) ++ drop (self.old.used + 1 + length key.now) self.old.words.now }
+    {
+        let at = self.used;
+        self.words[at] = header;
+        self.words[at + 1..at + 1 + key.len()].copy_from_slice(key);
+    }
+
+    // Takes in a key that fits, at the head of its bucket's chain.
+    fn add(&mut self, hash: u64, key: &[u64])
+        requires hash { hash ≡ hash_of key.now }
+        requires fits { fits (length key.now) (free self.old) ≡ true }
+        ensures used { used_words self.new ≡ used_words self.old ++ entry (recent (used_words self.old)) key.now }
+        ensures words { self.new.words.now ≡ used_words self.new ++ drop (length (used_words self.new)) self.old.words.now }
+    {
+        let bucket = (hash / HASHES) as usize;
+        let link = self.heads[bucket] as u64;
+        let header = hash / LINKS * LINKS + link * LENGTHS + key.len() as u64;
+        self.write(header, key);
+        self.heads[bucket] = (self.used + 1) as u16;
+        self.used += 1 + key.len();
+    }
+}
+
+impl<'a> Store for Shelf<'a> {
+    ghost use Rattle.stores.specs.Shown.{used_words, room, state_of, free};
+
+    ghost behaviour = { shelf };
+
+    ghost state = { state_of };
+
+    fn clear(&mut self)
+        ensures empties { shelf.empties (state_of self.old) (state_of self.new) }
+        ensures used { used_words self.new ≡ [] }
+        ensures words { self.new.words.now ≡ self.old.words.now }
+    {
+        self.heads = no_heads();
+        self.used = 0;
+    }
+
+    fn find(&self, key: &[u64]) -> bool {
+        self.holds(hash_words(key), key)
+    }
+
+    fn is_empty(&self) -> bool
+        ensures holds_none { IsTrue result → ((state_of self.now).held ≡ []) }
+        ensures value { result ≡ (length (used_words self.now) == 0) }
+    {
+        self.used == 0
+    }
+
+    fn turns_away(&self, words: usize) -> bool
+        ensures turned { IsTrue result → TurnsAway shelf (state_of self.now) words }
+        ensures value { result ≡ not (fits words (free self.now)) }
+    {
+        !self.fits(words)
+    }
+
+    fn keep(&mut self, key: &[u64]) -> Stored
+        ensures keeps { shelf.keeps (state_of self.old) key.now result (state_of self.new) }
+        ensures used { used_words self.new ≡ used_after (used_words self.old) (room self.old) key.now }
+        ensures words { self.new.words.now ≡ used_words self.new ++ drop (length (used_words self.new)) self.old.words.now }
+    {
+        let hash = hash_words(key);
+        if self.holds(hash, key) {
+            return Stored::Kept;
+        }
+        if !self.fits(key.len()) {
+            return Stored::Lost;
+        }
+        self.add(hash, key);
+        Stored::Kept
+    }
 }

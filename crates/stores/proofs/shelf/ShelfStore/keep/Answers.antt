@@ -7,7 +7,7 @@ use Rattle.stores.specs.Shown.{used_words, room, state_of}
 use Rattle.stores.specs.declared.store.Stored.TheVariants.{Kept}
 use Rattle.stores.proofs.Keeping.{keeps_held, keeps_more, keeps_lost}
 use Rattle.stores.proofs.Shelving.{space_free, state_more}
-use Rattle.stores.proofs.shelf.ops.ShelfStore.keep.Goals as goal
+use Rattle.stores.proofs.shelf.ShelfStore.keep.Goals as goal
 
 pub returns-then-holds-clause-keeps : goal.returns-then-holds-clause-keeps
 returns-then-holds-clause-keeps c = keeps_held (state_of c.args.self.now) c.args.key.now (sym c.if-holds.ensures)

@@ -3,7 +3,7 @@ use Rattle.stores.specs.Stores.{fits}
 use Rattle.stores.specs.Shown.{used_words, room, state_of}
 use Rattle.stores.proofs.Keeping.{turned_away}
 use Rattle.stores.proofs.Shelving.{space_free}
-use Rattle.stores.proofs.shelf.ops.ShelfStore.turns_away.Goals as goal
+use Rattle.stores.proofs.shelf.ShelfStore.turns_away.Goals as goal
 
 pub returns-clause-turned : goal.returns-clause-turned
 returns-clause-turned c h =
