@@ -1,6 +1,6 @@
 -- A store that holds the newest key alone.
 use Rattle.std.specs.Prelude.{ℕ, cond, List, [], ◌∷◌, length, take}
-use Rattle.stores.specs.Stores.{View, member, fits}
+use Rattle.stores.specs.Stores.{View, member, fits_space}
 use Rattle.stores.specs.declared.store.Stored.{Stored}
 use Rattle.stores.specs.declared.store.Stored.TheVariants.{Kept, Lost}
 use Rattle.loose.specs.declared.latest.Latest.{Latest}
@@ -27,4 +27,4 @@ abbrev pub latest_answer : LatestState → List ℕ → Stored
 latest_answer s k = cond (member k s.held) Kept Lost
 
 abbrev pub latest_after : LatestState → List ℕ → LatestState
-latest_after s k = cond (member k s.held) s (cond (fits (length k) s.room) (record { held = k ∷ []; room = s.room }) s)
+latest_after s k = cond (member k s.held) s (cond (fits_space (length k) s.room) (record { held = k ∷ []; room = s.room }) s)

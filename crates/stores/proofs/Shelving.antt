@@ -5,8 +5,8 @@ use Rattle.std.proofs.lemmas.Bool.{cases_Bool, and_right, lt-leb, eqb-true, eqb-
 use Rattle.std.proofs.Math.Seq.{get_or-append_seam}
 use Rattle.std.specs.Str.{bytes_eq}
 use Rattle.sets.specs.Placings.{same}
-use Rattle.stores.specs.Stores.{member, fits}
-use Rattle.stores.specs.Shelves.{hash_of, bucket, header, words_of, newest, entry, written, keys_in, shelved, recent, Whole, Indexed, room_of, shelf_state, shelf_view}
+use Rattle.stores.specs.Stores.{member, fits_space}
+use Rattle.stores.specs.Shelves.{hash_of, bucket, header, words_of, newest, shelf_entry, words_written, keys_in, shelved_keys, recent_keys, Whole, Indexed, room_of, shelf_state, shelf_view}
 use Rattle.stores.specs.ShelfLaws.{member_push}
 use Rattle.stores.proofs.Keeping.{Fitting, fitting, pushed_state}
 use Rattle.sets.proofs.Lists.{same_is}
@@ -58,7 +58,7 @@ bound_free (suc f) (suc g) (w ∷ ws) h k =
     ap (λ (x : List (List ℕ)). take (w % 65536) ws ∷ x)
     (bound_free f g (drop (w % 65536) ws) (omega (arith, length-drop (w % 65536) ws)) (omega (arith, length-drop (w % 65536) ws)))
 
-shelved_step : (h : ℕ) (ws : List ℕ) → shelved (h ∷ ws) ≡ take (h % 65536) ws ∷ shelved (drop (h % 65536) ws)
+shelved_step : (h : ℕ) (ws : List ℕ) → shelved_keys (h ∷ ws) ≡ take (h % 65536) ws ∷ shelved_keys (drop (h % 65536) ws)
 shelved_step h ws =
     ap (λ (x : List (List ℕ)). take (h % 65536) ws ∷ x)
     (bound_free (length ws) (length (drop (h % 65536) ws)) (drop (h % 65536) ws) (omega (arith, length-drop (h % 65536) ws)) (le_refl (length (drop (h % 65536) ws))))
@@ -96,11 +96,11 @@ data Runs : List ℕ → List (List ℕ) → Type 0 where
   none : Runs [] []
   more : (h : ℕ) (k ws : List ℕ) (ks : List (List ℕ)) → h % 65536 ≡ length k → Runs ws ks → Runs (h ∷ (k ++ ws)) (k ∷ ks)
 
-runs_read : (ws : List ℕ) (ks : List (List ℕ)) → Runs ws ks → shelved ws ≡ ks
+runs_read : (ws : List ℕ) (ks : List (List ℕ)) → Runs ws ks → shelved_keys ws ≡ ks
 runs_read ws ks none = refl
 runs_read ws ks (more h k rest others e r) =
     shelved_step h (k ++ rest)
-    ∙ ap₂ {C = List (List ℕ)} (λ (x : List ℕ) (y : List ℕ). x ∷ shelved y) (take_at k rest (h % 65536) (sym e)) (drop_at k rest (h % 65536) (sym e))
+    ∙ ap₂ {C = List (List ℕ)} (λ (x : List ℕ) (y : List ℕ). x ∷ shelved_keys y) (take_at k rest (h % 65536) (sym e)) (drop_at k rest (h % 65536) (sym e))
     ∙ ap (λ (x : List (List ℕ)). k ∷ x) (runs_read rest others r)
 
 runs_push : (ws : List ℕ) (ks : List (List ℕ)) (h : ℕ) (k : List ℕ) → h % 65536 ≡ length k → Runs ws ks → Runs (ws ++ (h ∷ k)) (ks ++ (k ∷ []))
@@ -108,32 +108,32 @@ runs_push ws ks h k e none = subst (λ (x : List ℕ). Runs (h ∷ x) (k ∷ [])
 runs_push ws ks h k e (more g x rest others d r) =
     subst (λ (y : List ℕ). Runs (g ∷ y) (x ∷ (others ++ (k ∷ [])))) (sym (append_assoc x rest (h ∷ k))) (more g x (rest ++ (h ∷ k)) (others ++ (k ∷ [])) d (runs_push rest others h k e r))
 
-runs_written : (ks : List (List ℕ)) → Short ks → Runs (written ks) (reverse ks)
+runs_written : (ks : List (List ℕ)) → Short ks → Runs (words_written ks) (reverse ks)
 runs_written [] s = none
 runs_written (k ∷ ks) s =
-    subst (Runs (written ks ++ entry ks k)) (sym (reverse_more ks k)) (runs_push (written ks) (reverse ks) (header (newest (bucket k) ks) k) k (header_length (newest (bucket k) ks) k s.0) (runs_written ks s.1))
+    subst (Runs (words_written ks ++ shelf_entry ks k)) (sym (reverse_more ks k)) (runs_push (words_written ks) (reverse ks) (header (newest (bucket k) ks) k) k (header_length (newest (bucket k) ks) k s.0) (runs_written ks s.1))
 
 -- what is written is read back
-read_back : (ks : List (List ℕ)) → Short ks → shelved (written ks) ≡ reverse ks
-read_back ks s = runs_read (written ks) (reverse ks) (runs_written ks s)
+read_back : (ks : List (List ℕ)) → Short ks → shelved_keys (words_written ks) ≡ reverse ks
+read_back ks s = runs_read (words_written ks) (reverse ks) (runs_written ks s)
 
-recent_short : (ws : List ℕ) → Short (recent ws)
-recent_short ws = short_reverse (shelved ws) (keys_short (length ws) ws)
+recent_short : (ws : List ℕ) → Short (recent_keys ws)
+recent_short ws = short_reverse (shelved_keys ws) (keys_short (length ws) ws)
 
 -- ---- one key more
 
-pub shelved_push : (ws k : List ℕ) → Whole ws → length k < 65536 → shelved (ws ++ entry (recent ws) k) ≡ shelved ws ++ (k ∷ [])
+pub shelved_push : (ws k : List ℕ) → Whole ws → length k < 65536 → shelved_keys (ws ++ shelf_entry (recent_keys ws) k) ≡ shelved_keys ws ++ (k ∷ [])
 shelved_push ws k w h =
-    ap (λ (x : List ℕ). shelved (x ++ entry (recent ws) k)) (sym w)
-    ∙ read_back (k ∷ recent ws) (h, recent_short ws)
-    ∙ reverse_more (recent ws) k
-    ∙ ap (λ (x : List (List ℕ)). x ++ (k ∷ [])) (reverse_twice (shelved ws))
+    ap (λ (x : List ℕ). shelved_keys (x ++ shelf_entry (recent_keys ws) k)) (sym w)
+    ∙ read_back (k ∷ recent_keys ws) (h, recent_short ws)
+    ∙ reverse_more (recent_keys ws) k
+    ∙ ap (λ (x : List (List ℕ)). x ++ (k ∷ [])) (reverse_twice (shelved_keys ws))
 
-recent_push : (ws k : List ℕ) → Whole ws → length k < 65536 → recent (ws ++ entry (recent ws) k) ≡ k ∷ recent ws
-recent_push ws k w h = ap reverse (shelved_push ws k w h) ∙ reverse_push (shelved ws) k
+recent_push : (ws k : List ℕ) → Whole ws → length k < 65536 → recent_keys (ws ++ shelf_entry (recent_keys ws) k) ≡ k ∷ recent_keys ws
+recent_push ws k w h = ap reverse (shelved_push ws k w h) ∙ reverse_push (shelved_keys ws) k
 
-pub whole_push : (ws k : List ℕ) → Whole ws → length k < 65536 → Whole (ws ++ entry (recent ws) k)
-whole_push ws k w h = ap written (recent_push ws k w h) ∙ ap (λ (x : List ℕ). x ++ entry (recent ws) k) w
+pub whole_push : (ws k : List ℕ) → Whole ws → length k < 65536 → Whole (ws ++ shelf_entry (recent_keys ws) k)
+whole_push ws k w h = ap words_written (recent_push ws k w h) ∙ ap (λ (x : List ℕ). x ++ shelf_entry (recent_keys ws) k) w
 
 member_reverse : (x : List ℕ) (ks : List (List ℕ)) → member x (reverse ks) ≡ member x ks
 member_reverse x [] = refl
@@ -141,9 +141,9 @@ member_reverse x (k ∷ ks) = ap (member x) (reverse_more ks k) ∙ member_push 
 
 -- ---- the chain of a bucket
 
-words_long : (ks : List (List ℕ)) → length (written ks) ≡ words_of ks
+words_long : (ks : List (List ℕ)) → length (words_written ks) ≡ words_of ks
 words_long [] = refl
-words_long (k ∷ ks) = omega (arith, length-append (written ks) (entry ks k), words_long ks)
+words_long (k ∷ ks) = omega (arith, length-append (words_written ks) (shelf_entry ks k), words_long ks)
 
 -- a place in a chain lies within the words
 pub newest_within : (b : ℕ) (ks : List (List ℕ)) → newest b ks ≤ words_of ks
@@ -160,7 +160,7 @@ pub record Newest (b : ℕ) (ks : List (List ℕ)) : Type 0 where
   pub before : List (List ℕ)
   pub rest : List ℕ
   pub place : newest b ks ≡ words_of before + 1
-  pub words : written ks ≡ (written before ++ (header (newest b before) key ∷ key)) ++ rest
+  pub words : words_written ks ≡ (words_written before ++ (header (newest b before) key ∷ key)) ++ rest
   pub members : (x : List ℕ) → bucket x ≡ b → member x ks ≡ (same x key || member x before)
   pub short : length key < 65536
   pub shorts : Short before
@@ -178,7 +178,7 @@ newest_key b (k ∷ ks) s h = by_bucket (eqb (bucket k) b) refl (newest_key b ks
       before = ks;
       rest = [];
       place = ap (λ (c : Bool). cond c (words_of ks + 1) (newest b ks)) e;
-      words = ap (λ (n : ℕ). written ks ++ (header (newest n ks) k ∷ k)) (eqb-true (bucket k) b e) ∙ sym (append-nil (written ks ++ (header (newest b ks) k ∷ k)));
+      words = ap (λ (n : ℕ). words_written ks ++ (header (newest n ks) k ∷ k)) (eqb-true (bucket k) b e) ∙ sym (append-nil (words_written ks ++ (header (newest b ks) k ∷ k)));
       members = λ x d. refl;
       short = s.0;
       shorts = s.1;
@@ -188,9 +188,9 @@ newest_key b (k ∷ ks) s h = by_bucket (eqb (bucket k) b) refl (newest_key b ks
         let n : Newest b ks = r (subst (λ (m : ℕ). 0 < m) at h) in record {
           key = n.key;
           before = n.before;
-          rest = n.rest ++ entry ks k;
+          rest = n.rest ++ shelf_entry ks k;
           place = at ∙ n.place;
-          words = ap (λ (x : List ℕ). x ++ entry ks k) n.words ∙ append_assoc (written n.before ++ (header (newest b n.before) n.key ∷ n.key)) n.rest (entry ks k);
+          words = ap (λ (x : List ℕ). x ++ shelf_entry ks k) n.words ∙ append_assoc (words_written n.before ++ (header (newest b n.before) n.key ∷ n.key)) n.rest (shelf_entry ks k);
           members = λ x d. ap (λ (c : Bool). c || member x ks) (other_bucket x k b d e) ∙ n.members x d;
           short = n.short;
           shorts = n.shorts;
@@ -212,21 +212,21 @@ pub record Walk (used key : List ℕ) (at : ℕ) : Type 0 where
   pub older : List (List ℕ)
   pub rest : List ℕ
   pub place : at ≡ newest (bucket key) older
-  pub words : used ≡ written older ++ rest
+  pub words : used ≡ words_written older ++ rest
   pub shorts : Short older
-  pub members : member key (shelved used) ≡ member key older
+  pub members : member key (shelved_keys used) ≡ member key older
 
-pub walk_begins : (used key : List ℕ) (at : ℕ) → Whole used → at ≡ newest (bucket key) (recent used) → Walk used key at
+pub walk_begins : (used key : List ℕ) (at : ℕ) → Whole used → at ≡ newest (bucket key) (recent_keys used) → Walk used key at
 walk_begins used key at w e = record {
-  older = recent used;
+  older = recent_keys used;
   rest = [];
   place = e;
-  words = sym (append-nil (written (recent used)) ∙ w);
+  words = sym (append-nil (words_written (recent_keys used)) ∙ w);
   shorts = recent_short used;
-  members = sym (member_reverse key (shelved used));
+  members = sym (member_reverse key (shelved_keys used));
 }
 
-pub walk_ends : (used key : List ℕ) (at : ℕ) → Walk used key at → at ≤ 0 → false ≡ member key (shelved used)
+pub walk_ends : (used key : List ℕ) (at : ℕ) → Walk used key at → at ≤ 0 → false ≡ member key (shelved_keys used)
 walk_ends used key at w h = sym (w.members ∙ no_newest key w.older (omega (arith, w.place)))
 
 -- the key that a walk stands at, in all the words of which the first n are used
@@ -237,7 +237,7 @@ pub record Stop (all : List ℕ) (n : ℕ) (key : List ℕ) (at : ℕ) : Type 0 
   pub lower : link < at
   pub inside : at + length held ≤ n
   pub words : take (length held) (drop at all) ≡ held
-  pub found : same key held ≡ true → true ≡ member key (shelved (take n all))
+  pub found : same key held ≡ true → true ≡ member key (shelved_keys (take n all))
   pub next : same key held ≡ false → Walk (take n all) key link
 
 pub walk_stops : (all : List ℕ) (n : ℕ) (key : List ℕ) (at : ℕ) → n ≤ length all → n ≤ 65536 → Walk (take n all) key at → 0 < at → Stop all n key at
@@ -264,7 +264,7 @@ walk_stops all n key at l r w h = record {
     s = newest_key (bucket key) w.older w.shorts (omega (arith, w.place))
 
     p : ℕ
-    p = length (written s.before)
+    p = length (words_written s.before)
 
     place : at ≡ p + 1
     place = w.place ∙ s.place ∙ ap (λ (x : ℕ). x + 1) (sym (words_long s.before))
@@ -275,71 +275,71 @@ walk_stops all n key at l r w h = record {
     more : List ℕ
     more = (s.rest ++ w.rest) ++ drop n all
 
-    members : member key (shelved (take n all)) ≡ (same key s.key || member key s.before)
+    members : member key (shelved_keys (take n all)) ≡ (same key s.key || member key s.before)
     members = w.members ∙ s.members key refl
 
-    front : take n all ≡ written s.before ++ ((h0 ∷ s.key) ++ (s.rest ++ w.rest))
+    front : take n all ≡ words_written s.before ++ ((h0 ∷ s.key) ++ (s.rest ++ w.rest))
     front = w.words ∙ ap (λ (x : List ℕ). x ++ w.rest) s.words
-        ∙ append_assoc (written s.before ++ (h0 ∷ s.key)) s.rest w.rest
-        ∙ append_assoc (written s.before) (h0 ∷ s.key) (s.rest ++ w.rest)
+        ∙ append_assoc (words_written s.before ++ (h0 ∷ s.key)) s.rest w.rest
+        ∙ append_assoc (words_written s.before) (h0 ∷ s.key) (s.rest ++ w.rest)
 
-    whole : all ≡ written s.before ++ (h0 ∷ (s.key ++ more))
+    whole : all ≡ words_written s.before ++ (h0 ∷ (s.key ++ more))
     whole = sym (take-append-drop n all) ∙ ap (λ (x : List ℕ). x ++ drop n all) front
-        ∙ append_assoc (written s.before) ((h0 ∷ s.key) ++ (s.rest ++ w.rest)) (drop n all)
-        ∙ ap (λ (x : List ℕ). written s.before ++ (h0 ∷ x)) (append_assoc s.key (s.rest ++ w.rest) (drop n all))
+        ∙ append_assoc (words_written s.before) ((h0 ∷ s.key) ++ (s.rest ++ w.rest)) (drop n all)
+        ∙ ap (λ (x : List ℕ). words_written s.before ++ (h0 ∷ x)) (append_assoc s.key (s.rest ++ w.rest) (drop n all))
 
     read : get_or all (at - 1) 0 ≡ h0
-    read = ap₂ (λ (x : List ℕ) (i : ℕ). get_or x i 0) whole (omega (arith, place)) ∙ get_or-append_seam (written s.before) h0 (s.key ++ more) 0
+    read = ap₂ (λ (x : List ℕ) (i : ℕ). get_or x i 0) whole (omega (arith, place)) ∙ get_or-append_seam (words_written s.before) h0 (s.key ++ more) 0
 
     behind : drop at all ≡ s.key ++ more
-    behind = ap₂ (λ (i : ℕ) (x : List ℕ). drop i x) place (whole ∙ sym (append_assoc (written s.before) (h0 ∷ []) (s.key ++ more)))
-        ∙ drop_at (written s.before ++ (h0 ∷ [])) (s.key ++ more) (p + 1) (length-append (written s.before) (h0 ∷ []))
+    behind = ap₂ (λ (i : ℕ) (x : List ℕ). drop i x) place (whole ∙ sym (append_assoc (words_written s.before) (h0 ∷ []) (s.key ++ more)))
+        ∙ drop_at (words_written s.before ++ (h0 ∷ [])) (s.key ++ more) (p + 1) (length-append (words_written s.before) (h0 ∷ []))
 
     lower : newest (bucket key) s.before < at
     lower = omega (arith, newest_within (bucket key) s.before, w.place, s.place)
 
     inside : at + length s.key ≤ n
-    inside = omega (arith, place, length-take-le n all l, ap length front, length-append (written s.before) ((h0 ∷ s.key) ++ (s.rest ++ w.rest)), length-append s.key (s.rest ++ w.rest))
+    inside = omega (arith, place, length-take-le n all l, ap length front, length-append (words_written s.before) ((h0 ∷ s.key) ++ (s.rest ++ w.rest)), length-append s.key (s.rest ++ w.rest))
 
 -- ---- a key added
 
 -- the header that is written
 pub headed : (heads ws k : List ℕ) (hash : ℕ) → hash ≡ hash_of k → hash < 2 ^ 64 → Indexed heads ws
-    → hash / 4294967296 * 4294967296 + get_or heads (hash / 18014398509481984) 0 * 65536 + length k ≡ header (newest (bucket k) (recent ws)) k
+    → hash / 4294967296 * 4294967296 + get_or heads (hash / 18014398509481984) 0 * 65536 + length k ≡ header (newest (bucket k) (recent_keys ws)) k
 headed heads ws k hash e r l =
     ap (λ (x : ℕ). hash / 4294967296 * 4294967296 + x * 65536 + length k) (l (hash / 18014398509481984) (omega arith))
-    ∙ ap (λ (x : ℕ). x / 4294967296 * 4294967296 + newest (x / 18014398509481984) (recent ws) * 65536 + length k) e
+    ∙ ap (λ (x : ℕ). x / 4294967296 * 4294967296 + newest (x / 18014398509481984) (recent_keys ws) * 65536 + length k) e
 
 pub indexed_push : (heads ws k : List ℕ) (hash : ℕ) → Whole ws → length k < 65536 → length heads ≡ 1024 → hash ≡ hash_of k → hash < 2 ^ 64 → Indexed heads ws
-    → Indexed (set heads (hash / 18014398509481984) (length ws + 1)) (ws ++ entry (recent ws) k)
+    → Indexed (set heads (hash / 18014398509481984) (length ws + 1)) (ws ++ shelf_entry (recent_keys ws) k)
 indexed_push heads ws k hash w n long e r l b h = sym (ap (newest b) (recent_push ws k w n) ∙ by_bucket (eqb (bucket k) b) refl)
   where
     at : hash / 18014398509481984 ≡ bucket k
     at = ap (λ (x : ℕ). x / 18014398509481984) e
 
-    by_bucket : (c : Bool) → eqb (bucket k) b ≡ c → newest b (k ∷ recent ws) ≡ get_or (set heads (hash / 18014398509481984) (length ws + 1)) b 0
+    by_bucket : (c : Bool) → eqb (bucket k) b ≡ c → newest b (k ∷ recent_keys ws) ≡ get_or (set heads (hash / 18014398509481984) (length ws + 1)) b 0
     by_bucket true d =
-        ap (λ (c : Bool). cond c (words_of (recent ws) + 1) (newest b (recent ws))) d
-        ∙ ap (λ (x : ℕ). x + 1) (sym (words_long (recent ws)) ∙ ap length w)
+        ap (λ (c : Bool). cond c (words_of (recent_keys ws) + 1) (newest b (recent_keys ws))) d
+        ∙ ap (λ (x : ℕ). x + 1) (sym (words_long (recent_keys ws)) ∙ ap length w)
         ∙ sym (get_or-set_same heads (hash / 18014398509481984) (length ws + 1) 0 (omega (arith, long)))
         ∙ ap (λ (x : ℕ). get_or (set heads (hash / 18014398509481984) (length ws + 1)) x 0) (at ∙ eqb-true (bucket k) b d)
     by_bucket false d =
-        ap (λ (c : Bool). cond c (words_of (recent ws) + 1) (newest b (recent ws))) d
+        ap (λ (c : Bool). cond c (words_of (recent_keys ws) + 1) (newest b (recent_keys ws))) d
         ∙ sym (l b h)
         ∙ sym (get_or-set_other heads (hash / 18014398509481984) b (length ws + 1) 0 (λ q. eqb-false (bucket k) b d (sym (q ∙ at))))
 
 -- a key that fits was written behind the used words: those that are used then
 pub record Pushed (all rest : List ℕ) (used now : ℕ) (k : List ℕ) : Type 0 where
   pub within : now ≤ room_of (length rest)
-  pub front : take now rest ≡ take used all ++ entry (recent (take used all)) k
+  pub front : take now rest ≡ take used all ++ shelf_entry (recent_keys (take used all)) k
   pub short : length k < 65536
 
 pub pushed : (all rest : List ℕ) (used now : ℕ) (k : List ℕ) → used ≤ room_of (length all)
-    → fits (length k) (room_of (length all) - length (take used all) - 1) ≡ true → now ≡ used + 1 + length k
-    → rest ≡ (take used all ++ entry (recent (take used all)) k) ++ drop (used + 1 + length k) all → Pushed all rest used now k
+    → fits_space (length k) (room_of (length all) - length (take used all) - 1) ≡ true → now ≡ used + 1 + length k
+    → rest ≡ (take used all ++ shelf_entry (recent_keys (take used all)) k) ++ drop (used + 1 + length k) all → Pushed all rest used now k
 pushed all rest used now k h f n e = record {
   within = omega (arith, roomy, same_long);
-  front = ap₂ take n e ∙ take_at (take used all ++ entry (recent (take used all)) k) (drop (used + 1 + length k) all) (used + 1 + length k) long;
+  front = ap₂ take n e ∙ take_at (take used all ++ shelf_entry (recent_keys (take used all)) k) (drop (used + 1 + length k) all) (used + 1 + length k) long;
   short = omega (arith, roomy);
 }
   where
@@ -349,11 +349,11 @@ pushed all rest used now k h f n e = record {
     roomy : used + 1 + length k ≤ room_of (length all)
     roomy = omega (arith, fit.some, fit.within, length-take-le used all (omega arith))
 
-    long : length (take used all ++ entry (recent (take used all)) k) ≡ used + 1 + length k
-    long = length-append (take used all) (entry (recent (take used all)) k) ∙ omega (arith, length-take-le used all (omega (arith, roomy)))
+    long : length (take used all ++ shelf_entry (recent_keys (take used all)) k) ≡ used + 1 + length k
+    long = length-append (take used all) (shelf_entry (recent_keys (take used all)) k) ∙ omega (arith, length-take-le used all (omega (arith, roomy)))
 
     same_long : length rest ≡ length all
-    same_long = ap length e ∙ length-append (take used all ++ entry (recent (take used all)) k) (drop (used + 1 + length k) all)
+    same_long = ap length e ∙ length-append (take used all ++ shelf_entry (recent_keys (take used all)) k) (drop (used + 1 + length k) all)
         ∙ omega (arith, roomy, long, length-drop (used + 1 + length k) all)
 
 -- ---- the state of a shelf, by its words
@@ -367,15 +367,15 @@ words_reverse [] = refl
 words_reverse (k ∷ ks) = ap words_of (reverse_more ks k) ∙ words_push (reverse ks) k ∙ ap (λ (n : ℕ). n + (1 + length k)) (words_reverse ks)
 
 -- its keys take just these words
-pub words_taken : (ws : List ℕ) → Whole ws → words_of (shelved ws) ≡ length ws
-words_taken ws w = sym (words_reverse (shelved ws)) ∙ sym (words_long (recent ws)) ∙ ap length w
+pub words_taken : (ws : List ℕ) → Whole ws → words_of (shelved_keys ws) ≡ length ws
+words_taken ws w = sym (words_reverse (shelved_keys ws)) ∙ sym (words_long (recent_keys ws)) ∙ ap length w
 
 pub space_free : (ws : List ℕ) (room : ℕ) → Whole ws → (shelf_view (shelf_state ws room)).space ≡ room - length ws - 1
 space_free ws room w = ap (λ (n : ℕ). room - n - 1) (words_taken ws w)
 
 -- a key that fits joins the others
-pub state_more : (ws vs rest all k : List ℕ) → Whole ws → length ws ≤ length all → fits (length k) (room_of (length all) - length ws - 1) ≡ true
-    → vs ≡ ws ++ entry (recent ws) k → rest ≡ vs ++ drop (length vs) all → shelf_state vs (room_of (length rest)) ≡ pushed_state (shelf_state ws (room_of (length all))) k
+pub state_more : (ws vs rest all k : List ℕ) → Whole ws → length ws ≤ length all → fits_space (length k) (room_of (length all) - length ws - 1) ≡ true
+    → vs ≡ ws ++ shelf_entry (recent_keys ws) k → rest ≡ vs ++ drop (length vs) all → shelf_state vs (room_of (length rest)) ≡ pushed_state (shelf_state ws (room_of (length all))) k
 state_more ws vs rest all k w l f e d =
     ap₂ shelf_state e (ap room_of same_long) ∙ ap (λ (x : List (List ℕ)). record { held = x; room = room_of (length all) }) (shelved_push ws k w (omega (arith, fit.some, fit.within)))
   where
@@ -384,10 +384,10 @@ state_more ws vs rest all k w l f e d =
 
     same_long : length rest ≡ length all
     same_long = ap length d ∙ length-append vs (drop (length vs) all)
-        ∙ omega (arith, fit.some, fit.within, ap length e, length-append ws (entry (recent ws) k), length-drop (length vs) all)
+        ∙ omega (arith, fit.some, fit.within, ap length e, length-append ws (shelf_entry (recent_keys ws) k), length-drop (length vs) all)
 
 -- a key that is empty or too long does not fit
-pub fits_not : (n room used : ℕ) → (n ≡ 0) ⊎ (room - used ≤ n) → fits n (room - used - 1) ≡ false
+pub fits_not : (n room used : ℕ) → (n ≡ 0) ⊎ (room - used ≤ n) → fits_space n (room - used - 1) ≡ false
 fits_not zero room used h = refl
 fits_not (suc n) room used (inl e) = absurd (omega arith)
 fits_not (suc n) room used (inr l) = and_right (ltb 0 (suc n)) (leb (suc n) (room - used - 1)) (lt-leb (suc n) (room - used - 1) (omega arith))

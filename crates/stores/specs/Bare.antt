@@ -2,7 +2,7 @@
 use Rattle.std.specs.Prelude.{◌≡◌, ℕ, zero, suc, List, [], length, false, refl}
 use Rattle.std.proofs.Common.{ltb, leb, arith}
 use Rattle.std.proofs.lemmas.Bool.{and_right, lt-leb}
-use Rattle.stores.specs.Stores.{View, Keeps, fits}
+use Rattle.stores.specs.Stores.{View, Keeps, fits_space}
 use Rattle.stores.specs.Behaviours.{Behaviour}
 use Rattle.stores.specs.declared.store.Stored.{Stored}
 use Rattle.stores.specs.declared.store.Stored.TheVariants.{Kept, Lost}
@@ -14,7 +14,7 @@ nothing = record { held = []; space = 0 }
 abbrev pub bare_keeps : Unit {0} → List ℕ → Stored → Unit {0} → Type 0
 bare_keeps s k a t = a ≡ Lost
 
-pub never_fits : (n : ℕ) → fits n 0 ≡ false
+pub never_fits : (n : ℕ) → fits_space n 0 ≡ false
 never_fits zero = refl
 never_fits (suc n) = and_right (ltb 0 (suc n)) (leb (suc n) 0) (lt-leb (suc n) 0 (omega arith))
 

@@ -5,7 +5,7 @@ use Rattle.std.proofs.lemmas.List.{length-append}
 use Rattle.std.proofs.lemmas.Bool.{or_right, or_parts, and_parts, cases_Bool, both_ways}
 use Rattle.sets.specs.Placings.{same}
 use Rattle.sets.proofs.Lists.{same_is, same_self}
-use Rattle.stores.specs.Stores.{Emptied, Keeps, member, distinct_keys, fits}
+use Rattle.stores.specs.Stores.{Emptied, Keeps, member, distinct_keys, fits_space}
 use Rattle.stores.specs.Behaviours.{Behaviour}
 use Rattle.stores.specs.Shelves.{ShelfState, shelf_view, shelf_emptied, shelf_answer, shelf_after}
 use Rattle.stores.specs.declared.store.Stored.{Stored}
@@ -40,7 +40,7 @@ distinct_push k (x ∷ ks) m d =
 
 -- ---- what Keep does is lawful
 
-keeps_by : (s : ShelfState) (k : List ℕ) (held room : Bool) → member k s.held ≡ held → fits (length k) (shelf_view s).space ≡ room
+keeps_by : (s : ShelfState) (k : List ℕ) (held room : Bool) → member k s.held ≡ held → fits_space (length k) (shelf_view s).space ≡ room
     → Keeps (shelf_view s) k (cond held Kept (cond room Kept Lost)) (shelf_view (cond held s (cond room (record { held = s.held ++ (k ∷ []); room = s.room }) s)))
 keeps_by s k true room m f = Keeps.again m
 keeps_by s k false true m f =
@@ -52,7 +52,7 @@ pub shelf_keeps_lawfully : (s t : ShelfState) (k : List ℕ) (a : Stored) → (a
 shelf_keeps_lawfully s t k a h =
     subst (λ (x : Stored). Keeps (shelf_view s) k x (shelf_view t)) (sym h.0)
     (subst (λ (x : ShelfState). Keeps (shelf_view s) k (shelf_answer s k) (shelf_view x)) (sym h.1)
-    (keeps_by s k (member k s.held) (fits (length k) (shelf_view s).space) refl refl))
+    (keeps_by s k (member k s.held) (fits_space (length k) (shelf_view s).space) refl refl))
 
 pub shelf_empties_lawfully : (s t : ShelfState) → t ≡ shelf_emptied s → Emptied (shelf_view t)
 shelf_empties_lawfully s t e = ap (λ (x : ShelfState). x.held) e

@@ -1,6 +1,6 @@
 -- The shelf: keys one after the other in lent words, each behind a header word.
 use Rattle.std.specs.Prelude.{◌≡◌, ℕ, zero, suc, ◌+◌, ◌-◌, ◌*◌, ◌/◌, ◌%◌, ◌^◌, ◌<◌, min, cond, nat_eq, List, [], ◌∷◌, ◌++◌, length, take, drop, reverse, slice_index}
-use Rattle.stores.specs.Stores.{View, member, fits}
+use Rattle.stores.specs.Stores.{View, member, fits_space}
 use Rattle.stores.specs.declared.store.Stored.{Stored}
 use Rattle.stores.specs.declared.store.Stored.TheVariants.{Kept, Lost}
 
@@ -42,12 +42,12 @@ newest b [] = 0
 newest b (k ∷ older) = cond (nat_eq (bucket k) b) (words_of older + 1) (newest b older)
 
 -- a key behind its header, which links it to the key of its bucket before it
-abbrev pub entry : List (List ℕ) → List ℕ → List ℕ
-entry older k = header (newest (bucket k) older) k ∷ k
+abbrev pub shelf_entry : List (List ℕ) → List ℕ → List ℕ
+shelf_entry older k = header (newest (bucket k) older) k ∷ k
 
-abbrev pub written : List (List ℕ) → List ℕ
-written [] = []
-written (k ∷ older) = written older ++ entry older k
+abbrev pub words_written : List (List ℕ) → List ℕ
+words_written [] = []
+words_written (k ∷ older) = words_written older ++ shelf_entry older k
 
 -- the keys that these words hold, the oldest first; the number bounds them
 abbrev pub keys_in : ℕ → List ℕ → List (List ℕ)
@@ -55,20 +55,20 @@ keys_in zero ws = []
 keys_in (suc n) [] = []
 keys_in (suc n) (h ∷ ws) = take (h % 65536) ws ∷ keys_in n (drop (h % 65536) ws)
 
-abbrev pub shelved : List ℕ → List (List ℕ)
-shelved ws = keys_in (length ws) ws
+abbrev pub shelved_keys : List ℕ → List (List ℕ)
+shelved_keys ws = keys_in (length ws) ws
 
 -- the same, the newest first
-abbrev pub recent : List ℕ → List (List ℕ)
-recent ws = reverse (shelved ws)
+abbrev pub recent_keys : List ℕ → List (List ℕ)
+recent_keys ws = reverse (shelved_keys ws)
 
 -- the words are whole keys behind their headers
 abbrev pub Whole : List ℕ → Type 0
-Whole ws = written (recent ws) ≡ ws
+Whole ws = words_written (recent_keys ws) ≡ ws
 
 -- the heads tell where each bucket's newest key lies
 abbrev pub Indexed : List ℕ → List ℕ → Type 0
-Indexed heads ws = (b : ℕ) → b < 1024 → slice_index heads b ≡ newest b (recent ws)
+Indexed heads ws = (b : ℕ) → b < 1024 → slice_index heads b ≡ newest b (recent_keys ws)
 
 -- a shelf, by the keys that it holds, the oldest first, and how many words it may use
 pub record ShelfState : Type 0 where
@@ -77,7 +77,7 @@ pub record ShelfState : Type 0 where
 
 -- the state of a shelf with these words used
 abbrev pub shelf_state : List ℕ → ℕ → ShelfState
-shelf_state used room = record { held = shelved used; room = room }
+shelf_state used room = record { held = shelved_keys used; room = room }
 
 -- each key takes a word more than its own, and so would the next
 abbrev pub shelf_view : ShelfState → View
@@ -88,11 +88,11 @@ shelf_emptied s = record { held = []; room = s.room }
 
 -- what Keep answers and leaves: a held key moves nothing, one that fits goes behind the others, a lost one alters nothing
 abbrev pub shelf_answer : ShelfState → List ℕ → Stored
-shelf_answer s k = cond (member k s.held) Kept (cond (fits (length k) (shelf_view s).space) Kept Lost)
+shelf_answer s k = cond (member k s.held) Kept (cond (fits_space (length k) (shelf_view s).space) Kept Lost)
 
 abbrev pub shelf_after : ShelfState → List ℕ → ShelfState
-shelf_after s k = cond (member k s.held) s (cond (fits (length k) (shelf_view s).space) (record { held = s.held ++ (k ∷ []); room = s.room }) s)
+shelf_after s k = cond (member k s.held) s (cond (fits_space (length k) (shelf_view s).space) (record { held = s.held ++ (k ∷ []); room = s.room }) s)
 
 -- and the words that are used then
 abbrev pub used_after : List ℕ → ℕ → List ℕ → List ℕ
-used_after used room k = cond (member k (shelved used)) used (cond (fits (length k) (room - length used - 1)) (used ++ entry (recent used) k) used)
+used_after used room k = cond (member k (shelved_keys used)) used (cond (fits_space (length k) (room - length used - 1)) (used ++ shelf_entry (recent_keys used) k) used)

@@ -10,9 +10,9 @@ used_words s = take s.used s.words.now
 abbrev pub room : Shelf → ℕ
 room s = room_of (length s.words.now)
 
-abbrev pub state_of : Shelf → ShelfState
-state_of s = shelf_state (used_words s) (room s)
+abbrev pub shelf_state_of : Shelf → ShelfState
+shelf_state_of s = shelf_state (used_words s) (room s)
 
 -- how many words a key may have that fits
-abbrev pub free : Shelf → ℕ
-free s = room s - length (used_words s) - 1
+abbrev pub free_words : Shelf → ℕ
+free_words s = room s - length (used_words s) - 1

@@ -24,8 +24,8 @@ abbrev pub Emptied : View → Type 0
 Emptied w = w.held ≡ []
 
 -- a key of so many words has one word or more and fits the space
-abbrev pub fits : ℕ → ℕ → Bool
-fits words space = nat_lt 0 words && nat_le words space
+abbrev pub fits_space : ℕ → ℕ → Bool
+fits_space words space = nat_lt 0 words && nat_le words space
 
 -- the keys of w are those of v and k, which v does not hold
 pub record Joined (v : View) (k : List ℕ) (w : View) : Type 0 where
@@ -38,8 +38,8 @@ pub data Keeps (v : View) (k : List ℕ) : Stored → View → Type 0 where
   -- held already: nothing moves
   again : member k v.held ≡ true → Keeps v k Kept v
   -- it fits: it joins the others
-  joins : (w : View) → member k v.held ≡ false → fits (length k) v.space ≡ true → Joined v k w → Keeps v k Kept w
+  joins : (w : View) → member k v.held ≡ false → fits_space (length k) v.space ≡ true → Joined v k w → Keeps v k Kept w
   -- it does not fit: what is held is part of the old keys and the new one; a key of no words alters nothing
-  loses : (w : View) → member k v.held ≡ false → fits (length k) v.space ≡ false
+  loses : (w : View) → member k v.held ≡ false → fits_space (length k) v.space ≡ false
       → ((x : List ℕ) → member x w.held ≡ true → (same x k || member x v.held) ≡ true)
       → (distinct_keys v.held ≡ true → distinct_keys w.held ≡ true) → (length k ≡ 0 → w ≡ v) → Keeps v k Lost w

@@ -1,8 +1,8 @@
 // The store in borrowed memory.
 ghost use Rattle.std.specs.Prelude.{◌≡◌, ℕ, ◌+◌, ◌<◌, ◌≤◌, ◌==◌, slice_index, [], ◌∷◌, ◌++◌, length, take, drop, IsTrue, true, not};
-ghost use Rattle.stores.specs.Stores.{member, fits};
+ghost use Rattle.stores.specs.Stores.{member, fits_space};
 ghost use Rattle.stores.specs.Behaviours.{TurnsAway};
-ghost use Rattle.stores.specs.Shelves.{room_of, Whole, Indexed, hash_of, shelved, recent, entry, used_after};
+ghost use Rattle.stores.specs.Shelves.{room_of, Whole, Indexed, hash_of, shelved_keys, recent_keys, shelf_entry, used_after};
 ghost use Rattle.stores.specs.ShelfLaws.{shelf};
 
 use crate::store::{Store, Stored};
@@ -44,7 +44,7 @@ fn no_heads() -> [u16; BUCKETS]
 }
 
 impl<'a> Shelf<'a> {
-    ghost use Rattle.stores.specs.Shown.{used_words, free};
+    ghost use Rattle.stores.specs.Shown.{used_words, free_words};
 
     // A shelf with no keys over the lent words.
     pub fn new(words: &'a mut [u64]) -> Shelf<'a>
@@ -61,7 +61,7 @@ impl<'a> Shelf<'a> {
 
     // Whether a key of so many words fits.
     fn fits(&self, words: usize) -> bool
-        ensures { result ≡ fits words (free self.now) }
+        ensures { result ≡ fits_space words (free_words self.now) }
     {
         words > 0 && words < self.words.len().min(MOST_WORDS) - self.used
     }
@@ -69,7 +69,7 @@ impl<'a> Shelf<'a> {
     // Whether the key is held: a walk along its bucket's chain. A key is compared only where its header tells the same length and the same high part of the hash.
     fn holds(&self, hash: u64, key: &[u64]) -> bool
         requires { hash ≡ hash_of key.now }
-        ensures { result ≡ member key.now (shelved (used_words self.now)) }
+        ensures { result ≡ member key.now (shelved_keys (used_words self.now)) }
     {
         let mut at = self.heads[(hash / HASHES) as usize] as usize;
         while at > 0 {
@@ -100,8 +100,8 @@ impl<'a> Shelf<'a> {
     // Takes in a key that fits, at the head of its bucket's chain.
     fn add(&mut self, hash: u64, key: &[u64])
         requires hash { hash ≡ hash_of key.now }
-        requires fits { fits (length key.now) (free self.old) ≡ true }
-        ensures used { used_words self.new ≡ used_words self.old ++ entry (recent (used_words self.old)) key.now }
+        requires fits { fits_space (length key.now) (free_words self.old) ≡ true }
+        ensures used { used_words self.new ≡ used_words self.old ++ shelf_entry (recent_keys (used_words self.old)) key.now }
         ensures words { self.new.words.now ≡ used_words self.new ++ drop (length (used_words self.new)) self.old.words.now }
     {
         let bucket = (hash / HASHES) as usize;
@@ -114,14 +114,14 @@ impl<'a> Shelf<'a> {
 }
 
 impl<'a> Store for Shelf<'a> {
-    ghost use Rattle.stores.specs.Shown.{used_words, room, state_of, free};
+    ghost use Rattle.stores.specs.Shown.{used_words, room, shelf_state_of, free_words};
 
     ghost behaviour = { shelf };
 
-    ghost state = { state_of };
+    ghost state = { shelf_state_of };
 
     fn clear(&mut self)
-        ensures empties { shelf.empties (state_of self.old) (state_of self.new) }
+        ensures empties { shelf.empties (shelf_state_of self.old) (shelf_state_of self.new) }
         ensures used { used_words self.new ≡ [] }
         ensures words { self.new.words.now ≡ self.old.words.now }
     {
@@ -134,21 +134,21 @@ impl<'a> Store for Shelf<'a> {
     }
 
     fn is_empty(&self) -> bool
-        ensures holds_none { IsTrue result → ((state_of self.now).held ≡ []) }
+        ensures holds_none { IsTrue result → ((shelf_state_of self.now).held ≡ []) }
         ensures value { result ≡ (length (used_words self.now) == 0) }
     {
         self.used == 0
     }
 
     fn turns_away(&self, words: usize) -> bool
-        ensures turned { IsTrue result → TurnsAway shelf (state_of self.now) words }
-        ensures value { result ≡ not (fits words (free self.now)) }
+        ensures turned { IsTrue result → TurnsAway shelf (shelf_state_of self.now) words }
+        ensures value { result ≡ not (fits_space words (free_words self.now)) }
     {
         !self.fits(words)
     }
 
     fn keep(&mut self, key: &[u64]) -> Stored
-        ensures keeps { shelf.keeps (state_of self.old) key.now result (state_of self.new) }
+        ensures keeps { shelf.keeps (shelf_state_of self.old) key.now result (shelf_state_of self.new) }
         ensures used { used_words self.new ≡ used_after (used_words self.old) (room self.old) key.now }
         ensures words { self.new.words.now ≡ used_words self.new ++ drop (length (used_words self.new)) self.old.words.now }
     {

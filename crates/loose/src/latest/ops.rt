@@ -1,6 +1,6 @@
 // What the store of one key does.
 ghost use Rattle.std.specs.Prelude.{◌≡◌, [], length, IsTrue, not};
-ghost use Rattle.stores.specs.Stores.{fits};
+ghost use Rattle.stores.specs.Stores.{fits_space};
 ghost use Rattle.stores.specs.Behaviours.{Decided, TurnsAway};
 ghost use Rattle.search.specs.Calls.{Call};
 ghost use Rattle.search.specs.Theorems.{OneHistory};
@@ -44,7 +44,7 @@ impl<'a> Store for Latest<'a> {
 
     fn turns_away(&self, words: usize) -> bool
         ensures turned { IsTrue result → TurnsAway latest (state_of self.now) words }
-        ensures value { result ≡ not (fits words (state_of self.now).room) }
+        ensures value { result ≡ not (fits_space words (state_of self.now).room) }
     {
         // any other key takes the place of the one that is held
         words == 0 || words > self.words.len()

@@ -1,6 +1,6 @@
 use Rattle.std.proofs.Common.{◌≡◌, ℕ, ◌+◌, ◌/◌, ◌∷◌, ◌++◌, List, length, get_or, set, take, drop, sym, ◌∙◌, ap, ap₂, subst, arith}
 use Rattle.std.proofs.lemmas.List.{length-take-le, length-set}
-use Rattle.stores.specs.Shelves.{Whole, newest, recent}
+use Rattle.stores.specs.Shelves.{Whole, newest, recent_keys}
 use Rattle.stores.proofs.Shelving.{headed, pushed, whole_push, indexed_push}
 use Rattle.stores.proofs.shelf.Shelf.add.Goals as goal
 
@@ -19,5 +19,5 @@ invariant_of-self c =
       within = p.within;
       whole = subst Whole (sym p.front) (whole_push ws k s.whole p.short);
       buckets = length-set c.write.new.self.heads (c.args.hash / 18014398509481984) (c.write.new.self.used + 1) ∙ ap length c.write.ensures.heads ∙ s.buckets;
-      indexed = λ b h. ap₂ (λ (x : List ℕ) (n : ℕ). get_or (set x (c.args.hash / 18014398509481984) (n + 1)) b 0) c.write.ensures.heads (sym long) ∙ more b h ∙ ap (λ (x : List ℕ). newest b (recent x)) (sym p.front);
+      indexed = λ b h. ap₂ (λ (x : List ℕ) (n : ℕ). get_or (set x (c.args.hash / 18014398509481984) (n + 1)) b 0) c.write.ensures.heads (sym long) ∙ more b h ∙ ap (λ (x : List ℕ). newest b (recent_keys x)) (sym p.front);
     }

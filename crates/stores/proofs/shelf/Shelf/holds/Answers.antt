@@ -1,7 +1,7 @@
 use Rattle.std.proofs.Common.{◌≡◌, ℕ, ◌+◌, ◌-◌, ◌/◌, ◌%◌, ◌<◌, List, length, get_or, take, drop, sym, ap, subst, ◌∙◌, arith}
 use Rattle.std.specs.Str.{bytes_eq}
 use Rattle.sets.specs.Placings.{same}
-use Rattle.stores.specs.Shelves.{hash_of, newest, recent}
+use Rattle.stores.specs.Shelves.{hash_of, newest, recent_keys}
 use Rattle.stores.specs.Shown.{used_words}
 use Rattle.stores.specs.declared.shelf.Shelf.{Shelf}
 use Rattle.stores.proofs.Shelving.{Walk, walk_begins, walk_ends, Stop, walk_stops, same_not, same_pointwise}
@@ -21,7 +21,7 @@ pub loop-at-init : goal.loop-at-init
 loop-at-init c =
     let s = c.args.self.now in
     walk_begins (used_words s) c.args.key.now (get_or s.heads (c.args.hash / 18014398509481984) 0) s.whole
-    (s.indexed (c.args.hash / 18014398509481984) (omega (arith, c.ranges.hash.fits)) ∙ ap (λ (x : ℕ). newest (x / 18014398509481984) (recent (used_words c.args.self.now))) c.requires)
+    (s.indexed (c.args.hash / 18014398509481984) (omega (arith, c.ranges.hash.fits)) ∙ ap (λ (x : ℕ). newest (x / 18014398509481984) (recent_keys (used_words c.args.self.now))) c.requires)
 
 pub offset_bounds-self-at : goal.offset_bounds-self-at
 offset_bounds-self-at c =
