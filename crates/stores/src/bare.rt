@@ -5,6 +5,8 @@ ghost use Rattle.stores.specs.Bare.{bare};
 
 use crate::store::{Store, Stored};
 
+/// A store that keeps no key: each key given to it is lost, and every search opens the nodes that it would open
+/// without a store.
 #[derive(Clone, Copy)]
 pub struct Bare;
 

@@ -12,8 +12,7 @@ fn write_voices(sets: &[ValueSet], words: &mut [u64])
     requires { length sets.now ≤ length words.old }
     ensures { words.new ≡ voice_words sets.now ++ drop (length sets.now) words.old }
 {
-    // by index: the check does not know what a write through `iter_mut` beside `zip` leaves in the words (engine's write_values is such a loop too, into bytes: over a
-    // closure for what is written the clause would say less)
+    // By index: after a loop over `iter_mut` and `zip` nothing is known of what the words hold.
     for (i, s) in sets.iter().enumerate() {
         words[i] = if is_fixed(*s) { 0 } else { *s };
     }
@@ -22,7 +21,8 @@ fn write_voices(sets: &[ValueSet], words: &mut [u64])
 // The rows' traces, at the front of `words`.
 fn write_traces<B: Bank>(rows: &[Row], sets: &[ValueSet], words: &mut [u64])
     requires { 2 * length rows.now ≤ length words.old }
-    ensures { words.new ≡ trace_words B.Bank.meaning sets.now (rows_of rows.now) ++ drop (2 * length rows.now) words.old }
+    ensures { words.new ≡ trace_words B.Bank.meaning sets.now (rows_of rows.now)
+        ++ drop (2 * length rows.now) words.old }
 {
     // by index, as in write_voices
     for (i, row) in rows.iter().enumerate() {
@@ -30,10 +30,13 @@ fn write_traces<B: Bank>(rows: &[Row], sets: &[ValueSet], words: &mut [u64])
     }
 }
 
-// Writes the key at the front of `words` and answers its length; where `words` is too short, nothing is written. Words beyond the key stay.
+/// Writes the key of these sets at the front of `words` and returns how many words it has. Where `words` is too short,
+/// it returns `None` and writes nothing.
 pub fn write_key<B: Bank>(rows: &[Row], sets: &[ValueSet], words: &mut [u64]) -> Option<usize>
-    ensures value { result ≡ put_answer (key B.Bank.meaning (rows_of rows.now) sets.now) words.old }
-    ensures after { words.new ≡ put_after (key B.Bank.meaning (rows_of rows.now) sets.now) words.old }
+    ensures value { result
+        ≡ put_answer (key B.Bank.meaning (rows_of rows.now) sets.now) words.old }
+    ensures after { words.new
+        ≡ put_after (key B.Bank.meaning (rows_of rows.now) sets.now) words.old }
 {
     if words.len() < sets.len() || (words.len() - sets.len()) / 2 < rows.len() {
         return None;

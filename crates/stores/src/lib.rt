@@ -1,4 +1,5 @@
-// Keys of nodes, what a store of them is, and two stores: the shelf in lent memory, and the bare store.
+//! Keys of nodes, what a store of them is, and two stores: the shelf, which keeps keys in borrowed memory, and the
+//! bare store, which keeps none.
 #![tactic(auto)]
 
 pub mod bare;

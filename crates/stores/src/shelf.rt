@@ -1,4 +1,4 @@
-// The store in borrowed memory.
+// The store that keeps keys in borrowed memory.
 ghost use Rattle.std.specs.Prelude.{◌≡◌, ℕ, ◌+◌, ◌<◌, ◌≤◌, ◌==◌, slice_index, [], ◌∷◌, ◌++◌, length, take, drop, IsTrue, true, not};
 ghost use Rattle.stores.specs.Stores.{member, fits_space};
 ghost use Rattle.stores.specs.Behaviours.{TurnsAway};
@@ -23,11 +23,14 @@ const LINKS: u64 = 1 << 32;
 // A hash divided by this is below the number of buckets.
 const HASHES: u64 = 1 << 54;
 
-// Of the lent words the first `used` hold keys, each behind its header; the first 65,536 at most are ever used. Each bucket has a chain of its keys, from the newest
-// to the oldest: its head says where the newest is, and each header where the one before is.
+/// A store in borrowed words, of which it uses at most the first 65,536. A key takes one word more than it has. It keeps
+/// what fits, and loses what no longer does; a lookup reads the keys of one of 1,024 buckets.
 #[derive(Drop)]
 pub struct Shelf<'a> {
+    // the first `used` hold keys, each behind its header
     words: &'a mut [u64],
+    // Each bucket has a chain of its keys, from the newest to the oldest: its head says where the newest is, counted
+    // from 1, and each header where the one before is; 0 ends the chain.
     heads: [u16; BUCKETS],
     used: usize,
     ghost within: { used ≤ room_of (length words.now) },
@@ -46,7 +49,7 @@ fn no_heads() -> [u16; BUCKETS]
 impl<'a> Shelf<'a> {
     ghost use Rattle.stores.specs.Shown.{used_words, free_words};
 
-    // A shelf with no keys over the lent words.
+    /// A shelf with no keys over these words; what they hold does not matter.
     pub fn new(words: &'a mut [u64]) -> Shelf<'a>
         ensures used { used_words result ≡ [] }
         ensures words { result.words.now ≡ words.old }
@@ -66,7 +69,8 @@ impl<'a> Shelf<'a> {
         words > 0 && words < self.words.len().min(MOST_WORDS) - self.used
     }
 
-    // Whether the key is held: a walk along its bucket's chain. A key is compared only where its header tells the same length and the same high part of the hash.
+    // Whether the key is held: a walk along its bucket's chain. A key is compared only where its header has the same
+    // length and the same high part of the hash.
     fn holds(&self, hash: u64, key: &[u64]) -> bool
         requires { hash ≡ hash_of key.now }
         ensures { result ≡ member key.now (shelved_keys (used_words self.now)) }
@@ -90,19 +94,22 @@ impl<'a> Shelf<'a> {
         requires { self.old.used + 1 + length key.now ≤ length self.old.words.now }
         ensures used { self.new.used ≡ self.old.used }
         ensures heads { self.new.heads ≡ self.old.heads }
-        ensures words { self.new.words.now ≡ (used_words self.old ++ (header ∷ key.now)) ++ drop (self.old.used + 1 + length key.now) self.old.words.now }
+        ensures words { self.new.words.now ≡ (used_words self.old ++ (header ∷ key.now))
+            ++ drop (self.old.used + 1 + length key.now) self.old.words.now }
     {
         let at = self.used;
         self.words[at] = header;
         self.words[at + 1..at + 1 + key.len()].copy_from_slice(key);
     }
 
-    // Takes in a key that fits, at the head of its bucket's chain.
+    // Keeps a key that fits, at the head of its bucket's chain.
     fn add(&mut self, hash: u64, key: &[u64])
         requires hash { hash ≡ hash_of key.now }
         requires fits { fits_space (length key.now) (free_words self.old) ≡ true }
-        ensures used { used_words self.new ≡ used_words self.old ++ shelf_entry (recent_keys (used_words self.old)) key.now }
-        ensures words { self.new.words.now ≡ used_words self.new ++ drop (length (used_words self.new)) self.old.words.now }
+        ensures used { used_words self.new
+            ≡ used_words self.old ++ shelf_entry (recent_keys (used_words self.old)) key.now }
+        ensures words { self.new.words.now
+            ≡ used_words self.new ++ drop (length (used_words self.new)) self.old.words.now }
     {
         let bucket = (hash / HASHES) as usize;
         let link = self.heads[bucket] as u64;
@@ -148,9 +155,12 @@ impl<'a> Store for Shelf<'a> {
     }
 
     fn keep(&mut self, key: &[u64]) -> Stored
-        ensures keeps { shelf.keeps (shelf_state_of self.old) key.now result (shelf_state_of self.new) }
-        ensures used { used_words self.new ≡ used_after (used_words self.old) (room self.old) key.now }
-        ensures words { self.new.words.now ≡ used_words self.new ++ drop (length (used_words self.new)) self.old.words.now }
+        ensures keeps { shelf.keeps (shelf_state_of self.old) key.now result
+            (shelf_state_of self.new) }
+        ensures used { used_words self.new
+            ≡ used_after (used_words self.old) (room self.old) key.now }
+        ensures words { self.new.words.now
+            ≡ used_words self.new ++ drop (length (used_words self.new)) self.old.words.now }
     {
         let hash = hash_words(key);
         if self.holds(hash, key) {
