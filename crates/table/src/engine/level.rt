@@ -1,7 +1,8 @@
-// The parts of a search's state, as memory holds them. The types stand alone here, since the definitions name them.
-use sets::ValueSet;
+// A level of a search without its sets, and where a search stands that has no level.
+ghost use Rattle.std.specs.Prelude.{◌≡◌, ◌-◌, ◌<◌};
+ghost use Rattle.sets.specs.Sets.{least, only};
 
-pub mod ops;
+use sets::{ValueSet, least_value, single};
 
 // A level without its sets: the voice that its children fix, and the values that are left to try.
 #[derive(Clone, Copy, Debug, PartialEq, Eq)]
@@ -10,8 +11,22 @@ pub struct LevelRecord {
     pub left: ValueSet,
 }
 
-// Where a search stands that has no level: its root is not opened yet, it has found values, it has searched everything. It says nothing of a search with
-// levels: a variant that held them would move them at each node.
+impl LevelRecord {
+    // Takes out the least value that is left to try, and returns it; 64 if there is none, and then nothing is taken out.
+    pub(crate) fn advance(&mut self) -> u32
+        ensures value { result ≡ least self.old.left }
+        ensures inside { 0 < self.old.left → result < 64 }
+        ensures after { self.new
+            ≡ record { voice = self.old.voice; left = self.old.left - only (least self.old.left) } }
+    {
+        let value = least_value(self.left);
+        self.left -= single(value);
+        value
+    }
+}
+
+// Where a search stands that has no level: its root is not opened yet, it has found values, it has searched everything.
+// It says nothing of a search with levels: a variant that held them would move them at each node.
 #[derive(Clone, Copy, Debug, PartialEq, Eq)]
 pub enum End {
     Fresh,

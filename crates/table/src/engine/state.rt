@@ -9,7 +9,6 @@ use crate::engine::level::End;
 use crate::engine::levels::Levels;
 use sets::ValueSet;
 
-pub mod node;
 pub mod ops;
 pub mod run;
 

@@ -2,8 +2,8 @@
 ghost use Rattle.std.specs.Prelude.{◌≡◌, IfOk, vec_len};
 ghost use Rattle.table.specs.Shown.{Begins};
 
-use crate::table::{MOST_ROWS, MOST_VOICES, Table};
 use crate::engine::state::Search;
+use crate::table::{MOST_ROWS, MOST_VOICES, Table};
 use rows::bank::Bank;
 use rows::row::Row;
 use std::alloc::{AllocError, Global};

@@ -2,10 +2,10 @@
 ghost use Rattle.search.specs.Calls.{Call};
 ghost use Rattle.table.specs.Shown.{CallDone, CallExtends, read_answer, LeftAlone};
 
+use crate::engine::values::write_values;
+use crate::outcome::Outcome;
 use crate::refusal::Refusal;
 use crate::table::Table;
-use crate::outcome::Outcome;
-use crate::engine::values::write_values;
 use rows::bank::Bank;
 use stores::store::Store;
 

@@ -3,9 +3,9 @@ ghost use Rattle.std.specs.Prelude.{◌≡◌, ◌+◌, ◌≤◌, OnErr};
 ghost use Rattle.search.specs.Calls.{Call, over};
 ghost use Rattle.table.specs.Shown.{model, found_in, CallDone, CallExtends, solve_answer};
 
+use crate::outcome::Outcome;
 use crate::refusal::Refusal;
 use crate::table::Table;
-use crate::outcome::Outcome;
 use rows::bank::Bank;
 use stores::store::Store;
 

@@ -3,8 +3,8 @@ ghost use Rattle.std.specs.Prelude.{◌≡◌};
 ghost use Rattle.table.specs.Searches.{outcome_of};
 ghost use Rattle.table.specs.Shown.{model};
 
-use crate::table::Table;
 use crate::outcome::Outcome;
+use crate::table::Table;
 use rows::bank::Bank;
 use stores::store::Store;
 

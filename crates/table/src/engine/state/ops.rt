@@ -7,8 +7,8 @@ ghost use Rattle.table.specs.Searches.{Begun, voice_count, node_sets, place, out
 use crate::engine::keys::KeyBuffer;
 use crate::engine::level::End;
 use crate::engine::levels::Levels;
-use crate::outcome::Outcome;
 use crate::engine::state::{MOST_VOICES, Search};
+use crate::outcome::Outcome;
 use sets::ValueSet;
 use std::alloc::{AllocError, Global};
 

@@ -7,9 +7,8 @@ ghost use Rattle.search.specs.Calls.{over};
 ghost use Rattle.table.specs.Searches.{voice_count, place, table_of, Ran, Runs};
 
 use crate::engine::level::End;
-use crate::engine::node::Node;
+use crate::engine::node::{Node, classify};
 use crate::engine::state::Search;
-use crate::engine::state::node::classify;
 use rows::bank::Bank;
 use rows::row::Row;
 use sets::ValueSet;

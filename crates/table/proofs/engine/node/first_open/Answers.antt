@@ -4,7 +4,7 @@ use Rattle.std.proofs.lemmas.List.{take_all}
 use Rattle.sets.specs.Sets.{fixed}
 use Rattle.table.specs.Nodes.{FirstOpen}
 use Rattle.table.proofs.Openings.{position_none, position_some}
-use Rattle.table.proofs.engine.state.node.first_open.Goals as goal
+use Rattle.table.proofs.engine.node.first_open.Goals as goal
 
 pub returns-in_err-open : goal.returns-in_err-open
 returns-in_err-open c =

@@ -4,7 +4,7 @@ use Rattle.sets.specs.Placings.{some_empty, Proper}
 use Rattle.search.specs.Propagation.{propagated}
 use Rattle.search.proofs.PropagationFacts.{propagation_sound}
 use Rattle.table.proofs.Openings.{open_from, some_open, not_empty, node_hit, node_branch}
-use Rattle.table.proofs.engine.state.node.classify.Goals as goal
+use Rattle.table.proofs.engine.node.classify.Goals as goal
 
 pub returns-then-find-clause-value : goal.returns-then-find-clause-value
 returns-then-find-clause-value g c =
