@@ -1,15 +1,22 @@
-// The levels of a search, as a stack. The struct stands alone here, since the definitions name it.
-ghost use Rattle.std.specs.Prelude.{◌≡◌, ◌*◌, ◌≤◌, vec_items, vec_len, vec_capacity};
+// The levels of a search, as a stack: made, dropped, put on top and taken from there, and backed up.
+ghost use Rattle.std.specs.Prelude.{◌≡◌, ◌+◌, ◌*◌, ◌<◌, ◌≤◌, false, ◌∷◌, length, slice_index, vec_items, vec_len, vec_capacity, IfOk};
 ghost use Rattle.sets.specs.Placings.{Proper};
-ghost use Rattle.search.specs.Limits.{most_voices};
-ghost use Rattle.table.specs.Levels.{Voiced};
+ghost use Rattle.rows.specs.Views.{rows_of};
+ghost use Rattle.search.specs.Limits.{most_voices, most_rows};
+ghost use Rattle.search.specs.Search.{below};
+ghost use Rattle.table.specs.Levels.{Voiced, Backed, is_none, is_spent, newest_sets, without_newest, next_sets, tried};
 
+use crate::engine::keys::KeyBuffer;
 use crate::engine::level::LevelRecord;
-use sets::ValueSet;
+use crate::engine::state::MOST_VOICES;
+use rows::bank::Bank;
+use rows::row::Row;
+use sets::{ValueSet, single};
+use std::alloc::{AllocError, Global};
+use stores::store::Store;
 
-pub mod back;
-pub mod child;
-pub mod ops;
+// The sets of all levels.
+const TRAIL: usize = MOST_VOICES * MOST_VOICES;
 
 // The levels, the newest last, in memory that is reserved when they are made. A record and its sets lie in two vectors, since a vector for each level would have
 // to be reserved 80 times; and each method says that it keeps `width`, which no ghost field can say.
@@ -29,4 +36,144 @@ pub struct Levels {
     ghost voiced: { Voiced width (vec_items records) },
     // no level has an empty set
     ghost proper: { Proper (vec_items trail) },
+}
+
+impl Levels {
+    ghost use Rattle.table.specs.Stacks.{listed, Cleared};
+
+    // No levels, for no voices.
+    pub(crate) fn new(heap: Global) -> Result<Levels, AllocError>
+        ensures { IfOk result (λ l. Cleared 0 l) }
+    {
+        let trail = Vec::with_capacity(heap, TRAIL)?;
+        let records = Vec::with_capacity(heap, MOST_VOICES)?;
+        Ok(Levels {
+            width: 0,
+            trail,
+            records,
+        })
+    }
+
+    // Drops all levels; those to come have this many sets.
+    pub(crate) fn restart(&mut self, width: usize)
+        requires { width ≤ most_voices }
+        ensures { Cleared width self.new }
+    {
+        self.trail.clear();
+        self.records.clear();
+        self.width = width;
+    }
+
+    // Drops all levels.
+    pub(crate) fn clear(&mut self)
+        ensures { Cleared self.old.width self.new }
+    {
+        self.restart(self.width);
+    }
+
+    // Whether there is no level.
+    pub(crate) fn is_empty(&self) -> bool
+        ensures { result ≡ is_none (listed self.now) }
+    {
+        self.records.is_empty()
+    }
+
+    // Whether there is a level, and the newest has no value left to try.
+    pub(crate) fn is_spent(&self) -> bool
+        ensures { result ≡ is_spent (listed self.now) }
+    {
+        self.records.last().is_some_and(|level| level.left == 0)
+    }
+
+    // The voices below this one are fixed in every node under these levels.
+    pub(crate) fn fixed_below(&self) -> usize
+        ensures value { result ≡ below (listed self.now) }
+        ensures inside { result ≤ self.now.width }
+    {
+        match self.records.last() {
+            Some(level) => level.voice + 1,
+            None => 0,
+        }
+    }
+
+    // The sets of the newest level.
+    pub(crate) fn newest_sets(&self) -> &[ValueSet]
+        requires { is_none (listed self.now) ≡ false }
+        ensures value { result.now ≡ newest_sets (listed self.now) }
+        ensures width { length result.now ≡ self.now.width }
+    {
+        &self.trail[self.trail.len() - self.width..]
+    }
+
+    // A level on top: a node with these sets, whose children fix the voice, which is none that the levels below it fix.
+    pub(crate) fn push(&mut self, voice: usize, sets: &[ValueSet])
+        requires width { length sets.now ≡ self.old.width }
+        requires inside { voice < length sets.now }
+        requires above { below (listed self.old) ≤ voice }
+        requires proper { Proper sets.now }
+        ensures width { self.new.width ≡ self.old.width }
+        ensures list { listed self.new ≡ record { sets = sets.now; voice = voice; left = slice_index sets.now voice } ∷ listed self.old }
+    {
+        // there is room, so that this allocates nothing and cannot fail
+        let _ = self.trail.extend_from_slice(sets);
+        self.records.push_reserved(LevelRecord {
+            voice,
+            left: sets[voice],
+        });
+    }
+
+    // Drops the newest level.
+    pub(crate) fn pop(&mut self)
+        requires { is_none (listed self.old) ≡ false }
+        ensures width { self.new.width ≡ self.old.width }
+        ensures count { vec_len self.new.records + 1 ≡ vec_len self.old.records }
+        ensures list { listed self.new ≡ without_newest (listed self.old) }
+    {
+        let rest = self.trail.len() - self.width;
+        self.records.pop();
+        self.trail.truncate(rest);
+    }
+
+    // Writes the sets of the node that is opened next: the voices' opening sets where there is no level, otherwise those of the newest level, with its voice
+    // fixed to the least value that is left to try, which is taken out of the level.
+    pub(crate) fn enter_next(&mut self, voices: &[ValueSet], sets: &mut [ValueSet])
+        requires voices { length voices.now ≡ self.old.width }
+        requires width { length sets.old ≡ self.old.width }
+        requires history { is_spent (listed self.old) ≡ false }
+        ensures width { self.new.width ≡ self.old.width }
+        ensures list { listed self.new ≡ tried (listed self.old) }
+        ensures after { sets.new ≡ next_sets voices.now (listed self.old) }
+        ensures proper { Proper voices.now → Proper sets.new }
+    {
+        let Some(level) = self.records.last_mut() else {
+            sets.copy_from_slice(voices);
+            return;
+        };
+        let value = level.advance();
+        let voice = level.voice;
+        sets.copy_from_slice(self.newest_sets());
+        sets[voice] = single(value);
+    }
+
+    // Gives the store the key of each level that has no value left to try, from the newest on, and drops it; says how many these were.
+    pub(crate) fn back_up<B: Bank, S: Store>(
+        &mut self,
+        rows: &[Row],
+        keys: &mut KeyBuffer,
+        store: &mut S,
+    ) -> usize
+        requires rows { length rows.now ≤ most_rows }
+        ensures width { self.new.width ≡ self.old.width }
+        ensures few { result ≤ self.old.width }
+        ensures history { is_spent (listed self.new) ≡ false }
+        ensures backs { Backed S.Store.behaviour B.Bank.meaning (rows_of rows.now) (listed self.old) (S.Store.state store.old) (listed self.new) (S.Store.state store.new) result }
+    {
+        let mut exhausted = 0;
+        while self.is_spent() {
+            keys.give::<B, S>(rows, self.newest_sets(), store);
+            self.pop();
+            exhausted += 1;
+        }
+        exhausted
+    }
 }
