@@ -1,16 +1,22 @@
-// The state of a search. The struct stands alone here, since the definitions name it.
-ghost use Rattle.std.specs.Prelude.{◌≡◌, ◌*◌, ◌≤◌, false, vec_len, vec_capacity};
-ghost use Rattle.search.specs.Limits.{most_voices, most_opened};
+// A search: made, begun again, run one node after the other, and asked what it has come to.
+ghost use Rattle.std.specs.Prelude.{◌≡◌, ◌+◌, ◌*◌, ◌<◌, ◌≤◌, false, length, vec_len, vec_capacity, IfOk};
+ghost use Rattle.rows.specs.Views.{rows_of};
+ghost use Rattle.rows.specs.Placed.{Ready};
+ghost use Rattle.search.specs.Limits.{most_voices, most_rows, most_opened};
+ghost use Rattle.search.specs.Calls.{over};
 ghost use Rattle.table.specs.Levels.{is_spent};
 ghost use Rattle.table.specs.Stacks.{listed};
 
 use crate::engine::keys::KeyBuffer;
 use crate::engine::level::End;
 use crate::engine::levels::Levels;
+use crate::engine::node::{Node, classify};
+use crate::outcome::Outcome;
+use rows::bank::Bank;
+use rows::row::Row;
 use sets::ValueSet;
-
-pub mod ops;
-pub mod run;
+use std::alloc::{AllocError, Global};
+use stores::store::Store;
 
 // The most voices that a search has.
 pub const MOST_VOICES: usize = 80;
@@ -34,4 +40,150 @@ pub struct Search {
     ghost fitted: { levels.width ≡ vec_len sets },
     // the newest level has a value left to try
     ghost history: { is_spent (listed levels) ≡ false },
+}
+
+// Each method says that there are as many voices as before, which no ghost field can say.
+impl Search {
+    ghost use Rattle.table.specs.Searches.{Begun, voice_count, node_sets, place, outcome_of, table_of, Ran, Runs};
+
+    // A search with no voices that has not begun.
+    pub fn new(heap: Global) -> Result<Search, AllocError>
+        ensures { IfOk result (λ s. Begun 0 s) }
+    {
+        let sets = Vec::with_capacity(heap, MOST_VOICES)?;
+        let keys = KeyBuffer::new(heap)?;
+        let levels = Levels::new(heap)?;
+        Ok(Search {
+            sets,
+            keys,
+            levels,
+            end: End::Fresh,
+            opened: 0,
+            exhausted: 0,
+        })
+    }
+
+    // The search begins again.
+    pub fn restart(&mut self)
+        ensures { Begun (voice_count self.old) self.new }
+    {
+        self.levels.restart(self.sets.len());
+        self.end = End::Fresh;
+        self.opened = 0;
+        self.exhausted = 0;
+    }
+
+    // The search begins again with one voice more.
+    pub fn add_voice(&mut self)
+        requires { voice_count self.old < most_voices }
+        ensures { Begun (voice_count self.old + 1) self.new }
+    {
+        // a method may be called only while levels and sets fit, so that the levels are dropped once more
+        self.restart();
+        self.sets.push_reserved(0);
+        self.levels.restart(self.sets.len());
+    }
+
+    // The search begins again with no voices.
+    pub fn clear(&mut self)
+        ensures { Begun 0 self.new }
+    {
+        // as in add_voice
+        self.restart();
+        self.sets.clear();
+        self.levels.restart(0);
+    }
+
+    // What the search has come to.
+    pub fn outcome(&self) -> Outcome
+        ensures { result ≡ outcome_of (place self.now) }
+    {
+        if !self.levels.is_empty() {
+            return Outcome::Stopped;
+        }
+        match self.end {
+            End::Fresh => Outcome::Stopped,
+            End::Found => Outcome::Found,
+            End::Exhausted => Outcome::None,
+        }
+    }
+
+    // Whether the search is over.
+    pub fn is_over(&self) -> bool
+        ensures { result ≡ over (place self.now) }
+    {
+        self.levels.is_empty() && matches!(self.end, End::Found | End::Exhausted)
+    }
+
+    // The sets of the node that was opened last, or that was found.
+    pub fn sets(&self) -> &[ValueSet]
+        ensures { result.now ≡ node_sets self.now }
+    {
+        &self.sets
+    }
+
+    // How many nodes were opened.
+    pub fn opened(&self) -> u64
+        ensures { result ≡ self.now.opened }
+    {
+        self.opened
+    }
+
+    // How many nodes were exhausted.
+    pub fn exhausted(&self) -> u64
+        ensures { result ≡ self.now.exhausted }
+    {
+        self.exhausted
+    }
+
+    // Opens the root, or the next child of the newest level.
+    fn step<B: Bank, S: Store>(&mut self, rows: &[Row], voices: &[ValueSet], store: &mut S)
+        requires open { over (place self.old) ≡ false }
+        requires voices { length voices.now ≡ voice_count self.old }
+        requires rows { length rows.now ≤ most_rows }
+        requires few { self.old.opened < most_opened }
+        requires ready { Ready B.Bank.meaning (rows_of rows.now) voices.now }
+        ensures goes { Ran S.Store.behaviour B.Bank.meaning 1 (table_of voices.now (rows_of rows.now) self.old) (S.Store.state store.old) (table_of voices.now (rows_of rows.now) self.new) (S.Store.state store.new) }
+        ensures voices { voice_count self.new ≡ voice_count self.old }
+        ensures count { self.new.opened ≡ self.old.opened + 1 }
+    {
+        self.levels.enter_next(voices, &mut self.sets);
+        let from = self.levels.fixed_below();
+        let node = classify::<B, S>(rows, from, &mut self.sets, &mut self.keys, store);
+        self.opened += 1;
+        match node {
+            Node::Dead | Node::Hit => {
+                self.exhausted += self.levels.back_up::<B, S>(rows, &mut self.keys, store) as u64;
+                self.end = End::Exhausted;
+            }
+            Node::Solution => {
+                self.levels.clear();
+                self.end = End::Found;
+            }
+            Node::Branch(v) => self.levels.push(v, &self.sets),
+        }
+    }
+
+    // Opens nodes until the search is over, and at most `budget` of them.
+    pub fn run<B: Bank, S: Store>(
+        &mut self,
+        rows: &[Row],
+        voices: &[ValueSet],
+        budget: u64,
+        store: &mut S,
+    )
+        requires voices { length voices.now ≡ voice_count self.old }
+        requires rows { length rows.now ≤ most_rows }
+        requires few { self.old.opened + budget ≤ most_opened }
+        requires ready { Ready B.Bank.meaning (rows_of rows.now) voices.now }
+        ensures runs { Runs S.Store.behaviour B.Bank.meaning budget (table_of voices.now (rows_of rows.now) self.old) (S.Store.state store.old) (table_of voices.now (rows_of rows.now) self.new) (S.Store.state store.new) }
+        ensures voices { voice_count self.new ≡ voice_count self.old }
+    {
+        for _ in 0..budget {
+            if self.is_over() {
+                return;
+            }
+            self.step::<B, S>(rows, voices, store);
+        }
+    }
 }
