@@ -1,24 +1,23 @@
-// A table. The struct stands alone here, since the definitions name it.
-ghost use Rattle.std.specs.Prelude.{◌≡◌, ◌<◌, ◌≤◌, take, vec_items, vec_len, vec_capacity};
+// A table: its voices and rows, and a search for their least lawful placing.
+ghost use Rattle.std.specs.Prelude.{◌≡◌, ◌+◌, ◌<◌, ◌≤◌, not, ◌||◌, length, nat_le, nat_lt, take, vec_items, vec_len, vec_capacity, IfOk, OnErr};
 ghost use Rattle.rows.specs.Bytes.{total_bytes};
 ghost use Rattle.rows.specs.Views.{rows_of};
-ghost use Rattle.search.specs.Limits.{most_voices, most_rows, most_bytes};
 ghost use Rattle.rows.specs.Placed.{Ready, ready_once};
-ghost use Rattle.table.specs.Searches.{voice_count};
+ghost use Rattle.search.specs.Limits.{most_voices, most_rows, most_bytes};
+ghost use Rattle.search.specs.Calls.{Call, Answer, over};
+ghost use Rattle.table.specs.Searches.{voice_count, outcome_of};
 
 use crate::engine::state::Search;
+use crate::engine::values::write_values;
+use crate::outcome::Outcome;
+use crate::refusal::Refusal;
 use rows::bank::Bank;
+use rows::reading::accept_bytes;
 use rows::row::Row;
 use sets::ValueSet;
+use std::alloc::{AllocError, Global};
 use std::marker::PhantomData;
 use stores::store::Store;
-
-pub mod edit;
-pub mod make;
-pub mod parts;
-pub mod read;
-pub mod solve;
-pub mod state;
 
 // The most voices, which are a search's.
 pub use crate::engine::state::MOST_VOICES;
@@ -27,6 +26,11 @@ pub use crate::engine::state::MOST_VOICES;
 pub const MOST_ROWS: usize = 120;
 
 pub const MOST_BYTES: usize = 8192;
+
+// The largest budget, and how many nodes a search opens at most.
+const MOST_BUDGET: u64 = 1_000_000;
+
+const MOST_OPENED: u64 = 1_000_000_000_000;
 
 // Voices and rows over the bank B, and a search for their least lawful placing with the store S. All memory is reserved when the table is made.
 #[derive(Drop)]
@@ -50,4 +54,196 @@ pub struct Table<B: Bank, S: Store> {
     ghost weighed: { total_bytes (rows_of (take posted rows.items)) ≡ bytes },
     // the bank accepts each row with as many voices as there are, and no opening set is empty
     ghost ready: { Ready B.Bank.meaning (rows_of (take posted rows.items)) (vec_items voices) } by { ready_once B.Bank.meaning (rows_of (take posted rows.items)) (vec_items voices) },
+}
+
+// Memory for the rows, and one more.
+fn make_rows(heap: Global) -> Result<Vec<Row>, AllocError>
+    ensures { IfOk result (λ rows. vec_len rows ≡ 121) }
+{
+    let mut rows = Vec::with_capacity(heap, MOST_ROWS + 1)?;
+    for _ in 0..MOST_ROWS + 1 {
+        rows.push_reserved(Row::new(heap, 0)?);
+    }
+    Ok(rows)
+}
+
+impl<B: Bank, S: Store + Drop> Table<B, S> {
+    ghost use Rattle.table.specs.Shown.{Begins};
+
+    // A table with no voices and no rows, over the store, which is emptied.
+    pub fn make(heap: Global, store: S) -> Result<Table<B, S>, AllocError>
+        ensures { IfOk result (λ t. Begins (S.Store.state store) t) }
+    {
+        let voices = Vec::with_capacity(heap, MOST_VOICES)?;
+        let rows = make_rows(heap)?;
+        let search = Search::new(heap)?;
+        let mut emptied = store;
+        emptied.clear();
+        Ok(Table {
+            bank: PhantomData,
+            store: emptied,
+            voices,
+            rows,
+            posted: 0,
+            bytes: 0,
+            search,
+        })
+    }
+}
+
+impl<B: Bank, S: Store> Table<B, S> {
+    ghost use Rattle.table.specs.Shown.{model, rows_in, found_in, CallDone, CallExtends, done_answer, solve_answer, read_answer, LeftAlone};
+
+    // One voice more, with this opening set. The store is emptied, and the search begins again.
+    pub fn declare(&mut self, set: ValueSet) -> Result<(), Refusal>
+        ensures does { CallDone self.old (Call.declare set) (done_answer result) self.new }
+        ensures history { CallExtends self.old (Call.declare set) (done_answer result) self.new }
+        ensures declined { OnErr result (self.new ≡ self.old) }
+    {
+        if set == 0 {
+            return Err(Refusal::EmptySet);
+        }
+        if self.voices.len() >= MOST_VOICES {
+            return Err(Refusal::VoicesFull);
+        }
+        self.voices.push_reserved(set);
+        self.search.add_voice();
+        self.store.clear();
+        Ok(())
+    }
+
+    // Whether there is room for one row more, of so many bytes.
+    fn has_room(&self, bytes: usize) -> bool
+        ensures { result ≡ not (nat_le most_rows (length (rows_in self.now)) || nat_lt most_bytes (total_bytes (rows_in self.now) + bytes)) }
+    {
+        if self.posted >= MOST_ROWS {
+            return false;
+        }
+        bytes <= MOST_BYTES - self.bytes
+    }
+
+    // One row more, from its bytes. The store is emptied, and the search begins again.
+    pub fn post(&mut self, bytes: &[u8]) -> Result<(), Refusal>
+        ensures does { CallDone self.old (Call.post bytes.now) (done_answer result) self.new }
+        ensures history { CallExtends self.old (Call.post bytes.now) (done_answer result) self.new }
+        ensures declined { OnErr result (self.new.store ≡ self.old.store) }
+    {
+        let voices = self.voices.len();
+        accept_bytes::<B>(bytes, voices, &mut self.rows[self.posted])?;
+        if !self.has_room(bytes.len()) {
+            return Err(Refusal::RowsFull);
+        }
+        self.posted += 1;
+        self.bytes += bytes.len();
+        self.search.restart();
+        self.store.clear();
+        Ok(())
+    }
+
+    // No voices and no rows. The store is emptied.
+    pub fn wipe(&mut self)
+        ensures does { CallDone self.old Call.wipe Answer.done self.new }
+        ensures history { CallExtends self.old Call.wipe Answer.done self.new }
+    {
+        self.voices.clear();
+        self.posted = 0;
+        self.bytes = 0;
+        self.search.clear();
+        self.store.clear();
+    }
+
+    // Opens nodes until the search is over, and at most `budget` of them. Found values are read by `read`.
+    pub fn solve(&mut self, budget: u64) -> Result<Outcome, Refusal>
+        ensures does { CallDone self.old (Call.solve budget) (solve_answer result (found_in self.new)) self.new }
+        ensures history { CallExtends self.old (Call.solve budget) (solve_answer result (found_in self.new)) self.new }
+        ensures declined { OnErr result (self.new ≡ self.old) }
+        ensures onward { (model self.old 0).opened ≤ (model self.new 0).opened }
+        ensures budget { (model self.new 0).opened ≤ (model self.old 0).opened + budget }
+    {
+        if budget == 0 || budget > MOST_BUDGET {
+            return Err(Refusal::BudgetRange);
+        }
+        if self.is_over() {
+            return Ok(self.search.outcome());
+        }
+        if self.opened() + budget > MOST_OPENED {
+            return Err(Refusal::NodesSpent);
+        }
+        self.search.run::<B, S>(
+            &self.rows[..self.posted],
+            &self.voices,
+            budget,
+            &mut self.store,
+        );
+        Ok(self.search.outcome())
+    }
+
+    // Whether the search is over.
+    fn is_over(&self) -> bool
+        ensures { result ≡ over (model self.now 0).place }
+    {
+        self.search.is_over()
+    }
+
+    // How many nodes the search has opened.
+    pub fn opened(&self) -> u64
+        ensures { result ≡ (model self.now 0).opened }
+    {
+        self.search.opened()
+    }
+
+    // How many nodes were exhausted since the store was emptied.
+    pub fn exhausted(&self) -> u64
+        ensures { result ≡ (model self.now 0).exhausted }
+    {
+        self.search.exhausted()
+    }
+
+    // What the search has come to; it goes no further.
+    pub fn outcome(&self) -> Outcome
+        ensures { result ≡ outcome_of (model self.now 0).place }
+    {
+        self.search.outcome()
+    }
+
+    // Writes the found values at the front of `out`, and answers how many; bytes beyond them stay.
+    pub fn read(&self, out: &mut [u8]) -> Result<usize, Refusal>
+        ensures does { CallDone self.now (Call.read out.old) (read_answer result out.new) self.now }
+        ensures history { CallExtends self.now (Call.read out.old) (read_answer result out.new) self.now }
+        ensures buffer { LeftAlone result out.old out.new }
+    {
+        match self.search.outcome() {
+            Outcome::Found => {}
+            Outcome::Stopped | Outcome::None => return Err(Refusal::NothingFound),
+        }
+        let sets = self.search.sets();
+        if out.len() < sets.len() {
+            return Err(Refusal::ShortBuffer);
+        }
+        write_values(sets, out);
+        Ok(sets.len())
+    }
+
+    // The opening sets of the voices, in order.
+    pub fn voices(&self) -> &[ValueSet]
+        ensures value { result.now ≡ (model self.now 0).voices }
+        ensures bound { length result.now ≤ most_voices }
+    {
+        &self.voices
+    }
+
+    // The rows, in the order in which they were posted.
+    pub fn rows(&self) -> &[Row]
+        ensures { rows_of result.now ≡ rows_in self.now }
+    {
+        &self.rows[..self.posted]
+    }
+
+    // How many bytes the rows have, all together.
+    pub fn row_bytes(&self) -> usize
+        ensures value { result ≡ total_bytes (rows_in self.now) }
+        ensures bound { result ≤ most_bytes }
+    {
+        self.bytes
+    }
 }
