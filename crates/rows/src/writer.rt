@@ -1,8 +1,6 @@
 // Lent memory that is written from a place on, piece after piece.
-ghost use Rattle.std.specs.Prelude.{◌≡◌, ◌^◌, ◌<◌, length};
+ghost use Rattle.std.specs.Prelude.{◌≡◌, ◌^◌, ◌<◌, length, decimal};
 ghost use Rattle.rows.specs.WrittenRows.{WrittenEncoded};
-
-pub mod ops;
 
 // The lent memory, and the place where the next piece goes. What does not fit is not written, and counts all the same, as far as a place can be counted.
 #[derive(Drop)]
@@ -37,6 +35,31 @@ impl<'a> Writer<'a> {
         ensures { result ≡ self.now.at }
     {
         self.at
+    }
+}
+
+impl Writer<'_> {
+    ghost use Rattle.rows.specs.Written.{Wrote};
+
+    // Writes the bytes, as many as fit.
+    pub fn put(&mut self, bytes: &[u8])
+        ensures { Wrote bytes.now self.old self.new }
+    {
+        if self.at < self.out.len() {
+            let count = bytes.len().min(self.out.len() - self.at);
+            self.out[self.at..self.at + count].copy_from_slice(&bytes[..count]);
+        }
+        self.at = self.at.saturating_add(bytes.len());
+    }
+
+    // Writes the number in decimal, without leading zeros.
+    pub fn put_number(&mut self, number: u64)
+        ensures { Wrote (decimal number) self.old self.new }
+    {
+        if number >= 10 {
+            self.put_number(number / 10);
+        }
+        self.put(&[b'0' + (number % 10) as u8]);
     }
 }
 
