@@ -1,12 +1,12 @@
 #!/usr/bin/env python3
-"""Seeded instances for perf/run. usage: perf/instances.py FOLDER    writes each as NAME.txt (the text of tools/sheet.py) and NAME.sheet"""
+"""Seeded instances for perf/run. usage: perf/instances.py FOLDER    writes each as NAME.txt (the text of tools/title.py) and NAME.sheet"""
 import os
 import random
 import sys
 from collections import namedtuple
 
 sys.path.insert(0, os.path.join(os.path.dirname(os.path.abspath(__file__)), '..', 'tools'))
-import sheet
+import title
 
 STORES = ('bare', 'shelf:4096', 'shelf:65536')
 
@@ -41,8 +41,8 @@ def some(literals):
     return 'some ' + ' '.join(f'{v}{sign}{value}' for v, sign, value in literals)
 
 
-def entry(index, result, table):
-    return f'entry {index} {result}: ' + ' '.join(map(str, table))
+def element(index, result, entries):
+    return f'table {index} -> {result}: ' + ' '.join(map(str, entries))
 
 
 # ---- families
@@ -106,7 +106,7 @@ def mixed(jobs, slots, bound, seed):
     clauses.append([(v, '=', slot) for v, slot in zip(rnd.sample(range(jobs), 3), rnd.sample(range(slots), 3))])
     factors = [rnd.randint(1, 9) for _ in range(jobs)]
     lines = [voice(range(slots))] * jobs + [voice(set(c)) for c in costs] + [different(range(jobs))]
-    lines += [entry(i, jobs + i, c) for i, c in enumerate(costs)]
+    lines += [element(i, jobs + i, c) for i, c in enumerate(costs)]
     lines += [most(bound, [(1, jobs + i) for i in range(jobs)]), most(sum(factors) * (slots - 1) * 11 // 20, zip(factors, range(jobs)))]
     return lines + [some(c) for c in clauses]
 
@@ -132,7 +132,7 @@ def console(seed, slack):
 
     lines = [voice(range(32))] * 14 + [voice(range(24, 64))] * 26 + [voice(range(8))] * 14 + [voice(range(1, 16))] * 26
     lines += [different(sorted(rnd.sample(instruments, 32))) for _ in range(14)]
-    lines += [entry(i, 40 + i, table) for i in range(14)]
+    lines += [element(i, 40 + i, table) for i in range(14)]
     lines += [total(32, sign) for sign in [1, -1] * 4] + [clause(32) for _ in range(4)]
     lines += [different(sorted(rnd.sample(instruments, 7))) for _ in range(30)]
     return lines + [total(7, rnd.choice([1, -1])) for _ in range(25)] + [clause(9) for _ in range(25)]
@@ -158,7 +158,7 @@ def ladder(voices, rows, members, kinds='ALCE'):
         elif kind == 'C':
             lines.append(some([(v, '=' if v in pigeons else '!=', rnd.randrange(8)) for v in rnd.sample(chosen, members)]))
         else:
-            lines.append(entry(*rnd.sample(last, 2), range(members)))
+            lines.append(element(*rnd.sample(last, 2), range(members)))
     return lines
 
 
@@ -197,13 +197,11 @@ LADDER = [(24, 30, 8), (48, 30, 8), (80, 30, 8), (48, 15, 8), (48, 60, 8), (48, 
 
 
 def write(folder, some_instances):
-    """Writes each as text and as a sheet, and sees that it is within the limits."""
+    """Writes each as text and as a sheet, which is refused where it is not within the limits."""
     os.makedirs(folder, exist_ok=True)
     for it in some_instances:
         text = '\n'.join(it.lines) + '\n'
-        made = sheet.write(text)
-        voices = sum(line.startswith('voice') for line in it.lines)
-        assert voices <= 80 and len(it.lines) - voices <= 120 and len(made) - 9 * voices - 1 <= 8192 and len(made) <= 20_000, it.name
+        made = title.write(text, it.name)
         with open(os.path.join(folder, it.name + '.txt'), 'w', encoding='utf-8') as file:
             file.write(text)
         with open(os.path.join(folder, it.name + '.sheet'), 'wb') as file:
