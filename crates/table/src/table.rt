@@ -103,11 +103,12 @@ impl<B: Bank, S: Store> Table<B, S> {
         if set == 0 {
             return Err(Refusal::EmptySet);
         }
-        if self.voices.len() >= MOST_VOICES {
+        let voices = self.voices.len();
+        if voices >= MOST_VOICES {
             return Err(Refusal::VoicesFull);
         }
         self.voices.push_reserved(set);
-        self.search.add_voice();
+        self.search.restart(voices + 1);
         self.store.clear();
         Ok(())
     }
@@ -135,7 +136,7 @@ impl<B: Bank, S: Store> Table<B, S> {
         }
         self.posted += 1;
         self.bytes += bytes.len();
-        self.search.restart();
+        self.search.restart(voices);
         self.store.clear();
         Ok(())
     }
@@ -148,7 +149,7 @@ impl<B: Bank, S: Store> Table<B, S> {
         self.voices.clear();
         self.posted = 0;
         self.bytes = 0;
-        self.search.clear();
+        self.search.restart(0);
         self.store.clear();
     }
 

@@ -63,35 +63,17 @@ impl Search {
         })
     }
 
-    // The search begins again.
-    pub fn restart(&mut self)
-        ensures { Begun (voice_count self.old) self.new }
+    // The search begins again, for so many voices.
+    pub fn restart(&mut self, voices: usize)
+        requires { voices ≤ most_voices }
+        ensures { Begun voices self.new }
     {
-        self.levels.restart(self.sets.len());
+        // there is room, so that this allocates nothing and cannot fail
+        let _ = self.sets.resize(voices, 0);
+        self.levels.restart(voices);
         self.end = End::Fresh;
         self.opened = 0;
         self.exhausted = 0;
-    }
-
-    // The search begins again with one voice more.
-    pub fn add_voice(&mut self)
-        requires { voice_count self.old < most_voices }
-        ensures { Begun (voice_count self.old + 1) self.new }
-    {
-        // a method may be called only while levels and sets fit, so that the levels are dropped once more
-        self.restart();
-        self.sets.push_reserved(0);
-        self.levels.restart(self.sets.len());
-    }
-
-    // The search begins again with no voices.
-    pub fn clear(&mut self)
-        ensures { Begun 0 self.new }
-    {
-        // as in add_voice
-        self.restart();
-        self.sets.clear();
-        self.levels.restart(0);
     }
 
     // What the search has come to.

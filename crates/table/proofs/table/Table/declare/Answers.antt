@@ -1,7 +1,7 @@
-use Rattle.std.proofs.Common.{◌+◌, ◌^◌, ◌<◌, ◌≤◌, length, vec_items, refl, arith, rules}
+use Rattle.std.proofs.Common.{◌^◌, ◌<◌, ◌≤◌, length, vec_items, refl, arith, rules}
 use Rattle.search.specs.Calls.{Answer}
 use Rattle.search.specs.Calls.Call.{declare}
-use Rattle.table.specs.Searches.{table_of, voice_count}
+use Rattle.table.specs.Searches.{table_of}
 use Rattle.table.specs.Shown.{model, store_in, rows_in}
 use Rattle.table.proofs.Calling.{extends_by, declines_by, declares_by}
 use Rattle.table.proofs.Readying.{ready_voice}
@@ -17,8 +17,8 @@ returns-then-set-eq0 g c =
     let d = declines_by g.S.Store.behaviour m (model t) v (declare c.args.set) 10 (λ j. empty_set m (model t j) c.args.set c.if-set-eq0.true) in
     record { does = d; history = extends_by g.S.Store.behaviour m g.met.B.Bank.lawful (model t) v (declare c.args.set) (Answer.refused 10) (model t) v fits d; declined = refl }
 
-pub returns-then-len-ge-MOST_VOICES : goal.returns-then-len-ge-MOST_VOICES
-returns-then-len-ge-MOST_VOICES g c =
+pub returns-then-voices-ge-MOST_VOICES : goal.returns-then-voices-ge-MOST_VOICES
+returns-then-voices-ge-MOST_VOICES g c =
     let m = g.B.Bank.meaning in
     let t = c.args.self.now in
     let v = store_in t in
@@ -38,12 +38,12 @@ pub returns : goal.returns
 returns g c =
     let m = g.B.Bank.meaning in
     let t = c.args.self.now in
-    let s = c.add_voice.new.self in
+    let s = c.restart.new.self in
     let v = store_in t in
     let w = g.S.Store.state c.clear.new.self in
     let voices = vec_items c.push_reserved.new.self in
     let fits : c.args.set < 2 ^ 64 = search rules in
     let room : length (vec_items t.voices) < 80 = omega (arith, t.voices.ok.0) in
-    let d = declares_by g.S.Store.behaviour m (vec_items t.voices) voices (rows_in t) t.search s v w c.args.set (voice_count t.search + 1) c.push_reserved.ensures.items c.add_voice.ensures
+    let d = declares_by g.S.Store.behaviour m (vec_items t.voices) voices (rows_in t) t.search s v w c.args.set _ c.push_reserved.ensures.items c.restart.ensures
     (λ j. voice_fits m (model t j) c.args.set c.if-set-eq0.false room) c.clear.ensures in
     record { does = d; history = extends_by g.S.Store.behaviour m g.met.B.Bank.lawful (model t) v (declare c.args.set) Answer.done (table_of voices (rows_in t) s) w fits d; declined = tt }

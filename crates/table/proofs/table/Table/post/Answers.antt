@@ -10,7 +10,7 @@ use Rattle.rows.specs.Views.{row_of, rows_of}
 use Rattle.rows.specs.Placed.{Ready}
 use Rattle.search.specs.Calls.{Answer}
 use Rattle.search.specs.Calls.Call.{post}
-use Rattle.table.specs.Searches.{table_of, voice_count}
+use Rattle.table.specs.Searches.{table_of}
 use Rattle.table.specs.declared.refusal.Refusal.{Refusal}
 use Rattle.table.specs.Refusals.{refusal_number}
 use Rattle.table.specs.Shown.{model, store_in, rows_in, done_answer}
@@ -84,7 +84,7 @@ invariant_of-self-2 g c =
     record {
       few = t.few;
       room = t.room;
-      searched = c.restart.ensures.voices ∙ t.searched;
+      searched = c.restart.ensures.voices ∙ c.len-voices.ensures;
       within = omega (arith, left.0, size);
       spare = t.spare;
       short = omega (arith, left.1, t.weighed);
@@ -112,6 +112,6 @@ returns g c =
     let l = laid_out m bs (length (vec_items t.voices)) c.in_ok-accept_bytes.field-0 e in
     let pushed = rows_pushed m t.rows.items t.posted r bs (row_of c.index_mut.result.now) k l c.in_ok-accept_bytes.ensures.after in
     let room = open_by (rows_in t) before (length bs) kept c.if-not-has_room.ensures in
-    let d = posts_by g.S.Store.behaviour m (vec_items t.voices) (rows_in t) rows t.search s v w bs (voice_count t.search) pushed c.restart.ensures
+    let d = posts_by g.S.Store.behaviour m (vec_items t.voices) (rows_in t) rows t.search s v w bs _ pushed c.restart.ensures
     (λ j. row_fits m (model t j) bs c.in_ok-accept_bytes.field-0 e room) c.clear.ensures in
     record { does = d; history = extends_by g.S.Store.behaviour m g.met.B.Bank.lawful (model t) v (post bs) Answer.done (table_of (vec_items t.voices) rows s) w b d; declined = tt }

@@ -10,9 +10,9 @@ pub returns : goal.returns
 returns g c =
     let m = g.B.Bank.meaning in
     let t = c.args.self.now in
-    let s = c.clear-2.new.self in
+    let s = c.restart.new.self in
     let v = store_in t in
-    let w = g.S.Store.state c.clear-3.new.self in
+    let w = g.S.Store.state c.clear-2.new.self in
     let voices = vec_items c.clear.new.self in
-    let d = wipes_by g.S.Store.behaviour m (model t) voices s v w 0 c.clear.ensures.items c.clear-2.ensures c.clear-3.ensures in
+    let d = wipes_by g.S.Store.behaviour m (model t) voices s v w 0 c.clear.ensures.items c.restart.ensures c.clear-2.ensures in
     record { does = d; history = extends_by g.S.Store.behaviour m g.met.B.Bank.lawful (model t) v wipe Answer.done (table_of voices [] s) w tt d }
