@@ -1,7 +1,7 @@
 // The search: its levels, keys, backing up, and one node after the other, in memory that is reserved when it is made.
-pub mod keys;
-pub mod level;
-pub mod levels;
-pub mod node;
-pub mod state;
-pub mod values;
+pub(crate) mod keys;
+pub(crate) mod level;
+pub(crate) mod levels;
+pub(crate) mod node;
+pub(crate) mod state;
+pub(crate) mod values;

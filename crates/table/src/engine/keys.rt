@@ -21,7 +21,7 @@ const KEY_WORDS: usize = 320;
 // That the rows are few is asked by each function that is lent them, and the store is lent beside them: a struct around the two would hold a `&mut` of the
 // table's store, and each function would have to say that it gives the same store back.
 #[derive(Drop)]
-pub struct KeyBuffer {
+pub(crate) struct KeyBuffer {
     words: Vec<u64>,
     ghost room: { most_voices + 2 * most_rows ≤ vec_len words },
 }

@@ -6,7 +6,7 @@ use sets::{ValueSet, least_value, single};
 
 // A level without its sets: the voice that its children fix, and the values that are left to try.
 #[derive(Clone, Copy, Debug, PartialEq, Eq)]
-pub struct LevelRecord {
+pub(crate) struct LevelRecord {
     pub voice: usize,
     pub left: ValueSet,
 }
@@ -28,7 +28,7 @@ impl LevelRecord {
 // Where a search stands that has no level: its root is not opened yet, it has found values, it has searched everything.
 // It says nothing of a search with levels: a variant that held them would move them at each node.
 #[derive(Clone, Copy, Debug, PartialEq, Eq)]
-pub enum End {
+pub(crate) enum End {
     Fresh,
     Found,
     Exhausted,

@@ -21,7 +21,7 @@ const TRAIL: usize = MOST_VOICES * MOST_VOICES;
 // The levels, the newest last, in memory that is reserved when they are made. A record and its sets lie in two vectors, since a vector for each level would have
 // to be reserved 80 times; and each method says that it keeps `width`, which no ghost field can say.
 #[derive(Drop)]
-pub struct Levels {
+pub(crate) struct Levels {
     // how many sets a level has: one for each voice
     width: usize,
     // the sets of all levels, one level's behind the other's

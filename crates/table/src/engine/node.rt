@@ -17,7 +17,7 @@ use stores::store::Store;
 
 // A set is empty; all voices are fixed; the store holds its key; it has children, which fix this voice.
 #[derive(Clone, Copy, Debug, PartialEq, Eq)]
-pub enum Node {
+pub(crate) enum Node {
     Dead,
     Solution,
     Hit,

@@ -23,7 +23,7 @@ pub const MOST_VOICES: usize = 80;
 
 // Where a search stands, and the memory that it works in, all of it reserved when it is made.
 #[derive(Drop)]
-pub struct Search {
+pub(crate) struct Search {
     // the sets of the node that is opened, or that was found: one for each voice
     sets: Vec<ValueSet>,
     keys: KeyBuffer,
@@ -47,7 +47,7 @@ impl Search {
     ghost use Rattle.table.specs.Searches.{Begun, voice_count, node_sets, place, outcome_of, table_of, Ran, Runs};
 
     // A search with no voices that has not begun.
-    pub fn new(heap: Global) -> Result<Search, AllocError>
+    pub(crate) fn new(heap: Global) -> Result<Search, AllocError>
         ensures { IfOk result (λ s. Begun 0 s) }
     {
         let sets = Vec::with_capacity(heap, MOST_VOICES)?;
@@ -64,7 +64,7 @@ impl Search {
     }
 
     // The search begins again, for so many voices.
-    pub fn restart(&mut self, voices: usize)
+    pub(crate) fn restart(&mut self, voices: usize)
         requires { voices ≤ most_voices }
         ensures { Begun voices self.new }
     {
@@ -77,7 +77,7 @@ impl Search {
     }
 
     // What the search has come to.
-    pub fn outcome(&self) -> Outcome
+    pub(crate) fn outcome(&self) -> Outcome
         ensures { result ≡ outcome_of (place self.now) }
     {
         if !self.levels.is_empty() {
@@ -91,28 +91,28 @@ impl Search {
     }
 
     // Whether the search is over.
-    pub fn is_over(&self) -> bool
+    pub(crate) fn is_over(&self) -> bool
         ensures { result ≡ over (place self.now) }
     {
         self.levels.is_empty() && matches!(self.end, End::Found | End::Exhausted)
     }
 
     // The sets of the node that was opened last, or that was found.
-    pub fn sets(&self) -> &[ValueSet]
+    pub(crate) fn sets(&self) -> &[ValueSet]
         ensures { result.now ≡ node_sets self.now }
     {
         &self.sets
     }
 
     // How many nodes were opened.
-    pub fn opened(&self) -> u64
+    pub(crate) fn opened(&self) -> u64
         ensures { result ≡ self.now.opened }
     {
         self.opened
     }
 
     // How many nodes were exhausted.
-    pub fn exhausted(&self) -> u64
+    pub(crate) fn exhausted(&self) -> u64
         ensures { result ≡ self.now.exhausted }
     {
         self.exhausted
@@ -147,7 +147,7 @@ impl Search {
     }
 
     // Opens nodes until the search is over, and at most `budget` of them.
-    pub fn run<B: Bank, S: Store>(
+    pub(crate) fn run<B: Bank, S: Store>(
         &mut self,
         rows: &[Row],
         voices: &[ValueSet],

@@ -5,7 +5,7 @@ ghost use Rattle.sets.specs.Placings.{values};
 use sets::{ValueSet, least_value};
 
 // Writes the values at the front of `out`; bytes beyond them stay.
-pub fn write_values(sets: &[ValueSet], out: &mut [u8])
+pub(crate) fn write_values(sets: &[ValueSet], out: &mut [u8])
     requires { length sets.now ≤ length out.old }
     ensures { out.new ≡ values sets.now ++ drop (length sets.now) out.old }
 {
