@@ -1,6 +1,7 @@
 #!/usr/bin/env python3
-"""The search and the calls of docs/RULES.md over plain sets of Python, written independently of the crates: what the programs `plan`, `harbour` and `histories` should print.
-It is neither proved nor needed to build. usage: tools/search.py sheet [WORDS] < SHEET, over a shelf of so many words, 4096 if left out; tools/search.py harbour > crates/harbour/stdout; tools/search.py histories > crates/histories/stdout"""
+"""The search and the calls of docs/RULES.md over plain sets of Python, written independently of the crates: what the programs `plan`, `example_harbour` and `example_histories` should print.
+It is neither proved nor needed to build. usage: tools/search.py sheet [WORDS] < SHEET, over a shelf of so many words, 4096 if left out; tools/search.py harbour > crates/example_harbour/stdout;
+tools/search.py histories > crates/example_histories/stdout"""
 import os
 import sys
 
@@ -226,9 +227,9 @@ class Table:
         return self.wipe()
 
 def history():
-    """The calls of crates/histories/stdin, one line each."""
+    """The calls of crates/example_histories/stdin, one line each."""
     folder = os.path.dirname(os.path.abspath(__file__))
-    with open(os.path.join(folder, "..", "crates", "histories", "stdin"), encoding="utf-8") as f:
+    with open(os.path.join(folder, "..", "crates", "example_histories", "stdin"), encoding="utf-8") as f:
         for line in f.read().splitlines():
             if line and not line.startswith("#"):
                 count, times, call = line.partition(" times ")
@@ -282,7 +283,7 @@ def sheet(words="4096"):
     for voice, value in enumerate([] if isinstance(found, str) else found):
         print(voice, value)
 
-# ---- the title of `harbour`
+# ---- the title of `example_harbour`
 
 NAMES = ["lead", "bass", "pad", "kick", "snare", "hat", "strings", "choir", "strings bank", "choir bank"]
 OPENING = [{0, 1, 2, 3}, {1}, {0, 1, 2, 3}, {0, 2, 3, 4}, {2, 3, 4, 5}, {3, 4, 5, 6, 7}, set(range(8)), set(range(8)), {4, 5, 6}, {4, 5, 6}]
