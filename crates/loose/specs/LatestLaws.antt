@@ -1,4 +1,4 @@
--- It does only what any store may do.
+-- The store of the newest key does what the laws of a store require.
 use Rattle.std.specs.Prelude.{◌≡◌, ℕ, Bool, true, false, cond, ◌||◌, List, [], ◌∷◌, length, refl}
 use Rattle.std.proofs.Common.{ap, sym, subst}
 use Rattle.std.proofs.lemmas.Bool.{or_left, or_right, both_ways}

@@ -1,5 +1,5 @@
 pub mod Loose
 pub mod LooseLaws
-pub mod Freed
+pub mod Premises
 pub mod LatestKey
 pub mod LatestLaws

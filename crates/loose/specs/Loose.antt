@@ -1,27 +1,30 @@
--- A kind that shows what the rules ask of a kind, and no more. Its rows hold for every placing.
--- Its members name no voice, so that none can be undeclared.
+-- A kind that does what the laws of a kind require, and no more. Its rows hold for every placing.
+-- Its members name no voice, so that no voice of a row is undeclared.
 use Rattle.std.specs.Prelude.{ℕ, ◌-◌, Bool, cond, ◌||◌, List, length, Ok, nat_eq, nat_lt, slice_set}
 use Rattle.std.specs.List.{list_all}
 use Rattle.sets.specs.Placings.{some_empty}
 use Rattle.rows.specs.Rows.{RowData, KindMeaning}
 use Rattle.rows.specs.declared.trace.Trace.TheVariants.{Settled, Open}
 
--- Of data that are no row, as those without members, and of sets of which one is empty no kind is asked anything.
-abbrev pub unasked : RowData → List ℕ → Bool
-unasked r s = nat_eq (length r.members) 0 || some_empty s
+-- No law says anything of a turn or a trace here: the data have no members, so that they are no row, or some set
+-- is empty.
+abbrev pub unconstrained : RowData → List ℕ → Bool
+unconstrained r s = nat_eq (length r.members) 0 || some_empty s
 
--- there a turn empties the last voice's set, so that more voices matter to it, and elsewhere it does nothing
-abbrev pub left : RowData → List ℕ → List ℕ
-left r s = cond (unasked r s) (slice_set s (length s - 1) 0) s
+-- There a turn empties the last voice's set, so that it depends on how many voices there are. Elsewhere it does
+-- nothing.
+abbrev pub loose_turn : RowData → List ℕ → List ℕ
+loose_turn r s = cond (unconstrained r s) (slice_set s (length s - 1) 0) s
 
--- Each field's freedom: `accepts` says yes to data that are no row; `holds` looks at all voices, which a number that is no value shows; `turn` and `trace`
--- depend on how many voices there are where they are not asked.
+-- What each field does beyond the laws: `accepts` is yes also for data that are no row; `holds` looks at every voice,
+-- which shows where a number is no value; `turn` and `trace` depend on the number of voices where they are
+-- unconstrained.
 abbrev pub loose : KindMeaning
 loose = record {
   letter = 0x54;
   body_length = 1;
   accepts = λ r n. Ok tt;
   holds = λ r p. list_all (λ v. nat_lt v 64) p;
-  turn = left;
-  trace = λ r s. cond (unasked r s) (Open (length s)) Settled;
+  turn = loose_turn;
+  trace = λ r s. cond (unconstrained r s) (Open (length s)) Settled;
 }

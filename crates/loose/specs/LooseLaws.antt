@@ -13,14 +13,14 @@ use Rattle.rows.specs.declared.trace.Trace.TheVariants.{Settled, Open}
 use Rattle.rows.proofs.Members.{lettered_by}
 use Rattle.rows.proofs.Cuts.{narrower_refl}
 use Rattle.search.proofs.Boxes.{proper_full}
-use Rattle.loose.specs.Loose.{unasked, loose}
+use Rattle.loose.specs.Loose.{unconstrained, loose}
 
 some_there : (k : ℕ) (b : Bool) → 1 ≤ k → (nat_eq k 0 || b) ≡ b
 some_there k b h = ap (λ x. x || b) (ne_eqb k 0 (λ e. omega (arith, e)))
 
 -- an accepted row where no set is empty
-pub asked : (r : RowData) (s : List ℕ) (n : ℕ) → Accepted (alone loose) r n → Proper s → unasked r s ≡ false
-asked r s n a h = some_there (length r.members) (some_empty s) (omega (arith, a.shape.counted, a.shape.some_members)) ∙ proper_full s h
+pub constrained : (r : RowData) (s : List ℕ) (n : ℕ) → Accepted (alone loose) r n → Proper s → unconstrained r s ≡ false
+constrained r s n a h = some_there (length r.members) (some_empty s) (omega (arith, a.shape.counted, a.shape.some_members)) ∙ proper_full s h
 
 all_below : (p : List ℕ) → Placing p → list_all (λ v. nat_lt v 64) p ≡ true
 all_below [] h = refl
@@ -52,10 +52,10 @@ loose_lawful = record {
   where
     -- its turn leaves the sets as they are, its trace is settled, and it holds for every placing
     still : (r : RowData) (s : List ℕ) (n : ℕ) → Accepted (alone loose) r n → Proper s → loose.turn r s ≡ s
-    still r s n a h = ap (λ b. cond b (slice_set s (length s - 1) 0) s) (asked r s n a h)
+    still r s n a h = ap (λ b. cond b (slice_set s (length s - 1) 0) s) (constrained r s n a h)
 
     settled : (r : RowData) (s : List ℕ) (n : ℕ) → Accepted (alone loose) r n → Proper s → loose.trace r s ≡ Settled
-    settled r s n a h = ap (λ b. cond b (Open (length s)) Settled) (asked r s n a h)
+    settled r s n a h = ap (λ b. cond b (Open (length s)) Settled) (constrained r s n a h)
 
     holds_always : (r : RowData) (p : List ℕ) → Placing p → loose.holds r p ≡ true
     holds_always r p h = all_below p h

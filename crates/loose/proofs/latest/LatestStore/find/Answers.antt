@@ -2,7 +2,7 @@ use Rattle.std.proofs.Common.{◌<◌, length, take, sym, ◌∙◌, arith}
 use Rattle.std.proofs.lemmas.List.{length-take-le}
 use Rattle.stores.proofs.Shelving.{same_pointwise}
 use Rattle.loose.proofs.Holding.{member_one}
-use Rattle.loose.proofs.latest.ops.LatestStore.find.Goals as goal
+use Rattle.loose.proofs.latest.LatestStore.find.Goals as goal
 
 pub returns-then-self-gt0 : goal.returns-then-self-gt0
 returns-then-self-gt0 c =

@@ -3,7 +3,7 @@ use Rattle.stores.specs.Behaviours.{Decided}
 use Rattle.search.proofs.OutcomeFacts.{one_history}
 use Rattle.loose.specs.LatestKey.{latest_answer, latest_after}
 use Rattle.loose.specs.LatestLaws.{latest}
-use Rattle.loose.proofs.latest.ops.latest_decides.Goals as goal
+use Rattle.loose.proofs.over_latest.latest_decides.Goals as goal
 
 decided : Decided latest
 decided = record {

@@ -6,7 +6,7 @@ use Rattle.rows.specs.Rows.{alone, RowData}
 use Rattle.rows.specs.Laws.{Accepted}
 use Rattle.rows.specs.Traces.{content_word}
 use Rattle.loose.specs.Loose.{loose}
-use Rattle.loose.proofs.freedom_used.Goals as goal
+use Rattle.loose.proofs.premises_needed.Goals as goal
 
 -- ---- a row with one member, and data without members
 
@@ -37,7 +37,7 @@ one_proper (suc i) h = absurd (omega arith)
 pub returns : goal.returns
 unfolding a_row no_row
 returns c = record {
-  yes_to_no_row = λ f. let z : 0 ≡ 1 = (f no_row 0 refl).counted in absurd (omega (arith, z));
+  accepts_no_row = λ f. let z : 0 ≡ 1 = (f no_row 0 refl).counted in absurd (omega (arith, z));
   holds_more = λ f. both_ways (loose.holds a_row (64 ∷ [])) refl (f a_row [] (64 ∷ []) (a_row_accepted 0));
   turn_more_empty = λ f. let z : 0 ≡ 3 = ap (λ s. slice_index s 1) (f a_row (0 ∷ []) (3 ∷ []) (a_row_accepted 1)) in absurd (omega (arith, z));
   trace_more_empty = λ f. let z : 2 ≡ 1 = ap content_word (f a_row (0 ∷ []) (0 ∷ []) (a_row_accepted 1)) in absurd (omega (arith, z));
