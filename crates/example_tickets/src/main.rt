@@ -2,8 +2,8 @@
 #![tactic(auto)]
 
 use kinds::all_different::AllDifferent;
-use tickets::refusal::BuildRefusal;
-use tickets::steps::{begin, close, give_member, scrap};
+use tickets::refusal::TicketRefusal;
+use tickets::ticket::Ticket;
 use table::outcome::Outcome;
 use table::Table;
 use rows::bank::Alone;
@@ -18,13 +18,13 @@ type OneKind = Alone<AllDifferent>;
 const OPENING: ValueSet = 0b1010;
 
 // Builds the row "all different" over the voices 0 and 1 and posts it; then begins another, and scraps it.
-fn build_rows(table: &mut Table<OneKind, Bare>, memory: &mut [u8]) -> Result<(), BuildRefusal> {
-    let ticket = begin::<OneKind>(b'A', &[2], memory)?;
-    let ticket = give_member(ticket, memory, 0, 0)?;
-    let ticket = give_member(ticket, memory, 1, 0)?;
-    close(ticket, table, memory)?;
-    let ticket = begin::<OneKind>(b'A', &[1], memory)?;
-    scrap(ticket);
+fn build_rows(table: &mut Table<OneKind, Bare>, memory: &mut [u8]) -> Result<(), TicketRefusal> {
+    let ticket = Ticket::begin::<OneKind>(b'A', &[2], memory)?;
+    let ticket = ticket.give_member(memory, 0, 0)?;
+    let ticket = ticket.give_member(memory, 1, 0)?;
+    ticket.close(table, memory)?;
+    let ticket = Ticket::begin::<OneKind>(b'A', &[1], memory)?;
+    ticket.scrap();
     Ok(())
 }
 
@@ -50,7 +50,7 @@ fn main(rt: HostRuntime) -> anyhow::Result<()> {
     let mut memory = [0u8; 16];
     match build_rows(&mut table, &mut memory) {
         Ok(()) => println!(rt; "one row posted, one scrapped")?,
-        Err(refusal) => println!(rt; "refused {refusal}")?,
+        Err(refusal) => println!(rt; "refused {}", refusal.number())?,
     }
     print_placing(&rt, &mut table)?;
     Ok(())
