@@ -24,7 +24,7 @@ impl<'a> Latest<'a> {
 }
 
 impl<'a> Store for Latest<'a> {
-    ghost use Rattle.stores.specs.Stores.{fits};
+    ghost use Rattle.stores.specs.Stores.{fits_space};
     ghost use Rattle.stores.specs.Behaviours.{TurnsAway};
     ghost use Rattle.loose.specs.LatestKey.{latest_state};
     ghost use Rattle.loose.specs.LatestLaws.{latest};
@@ -48,7 +48,7 @@ impl<'a> Store for Latest<'a> {
 
     fn turns_away(&self, words: usize) -> bool
         ensures turned { IsTrue result → TurnsAway latest (latest_state self.now) words }
-        ensures value { result ≡ not (fits words (latest_state self.now).room) }
+        ensures value { result ≡ not (fits_space words (latest_state self.now).room) }
     {
         // any other key replaces the one that is held
         words == 0 || words > self.words.len()
