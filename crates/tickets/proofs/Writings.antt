@@ -17,5 +17,5 @@ read_front mem bytes n e h = ap (take n) (written_front bytes mem (omega arith))
 
 -- ---- members
 
-pub members_push : (xs : List Member) (x : Member) → written_members (xs ++ (x ∷ [])) ≡ written_members xs ++ written_members (x ∷ [])
+pub members_push : (xs : List Member) (x : Member) → written_members (xs ++ (x ∷ [])) ≡ written_members xs ++ written_member x
 members_push xs x = flat_map-append written_member xs (x ∷ [])

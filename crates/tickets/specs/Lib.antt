@@ -1,4 +1,4 @@
-pub mod Numbers
+pub mod Refusals
 pub mod Building
 pub mod Closing
 pub mod Whole

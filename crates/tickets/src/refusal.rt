@@ -1,69 +1,62 @@
-// Why a whole row is not built and posted.
-ghost use Rattle.std.specs.Prelude.{◌≡◌, Some, decimal};
-ghost use Rattle.tickets.specs.declared.refusal.BuildRefusal.TheVariants.{Building};
-ghost use Rattle.tickets.specs.Numbers.{build_number};
-ghost use Rattle.tickets.specs.Whole.{refusal_of};
+// Why a call that builds a row is refused.
+ghost use Rattle.std.specs.Prelude.{◌≡◌, Some};
+ghost use Rattle.tickets.specs.Refusals.{ticket_refusal_number, ticket_refusal_text};
 
-use crate::fault::BuildFault;
-use crate::steps::scrap;
-use crate::ticket::{CloseFault, Declined};
-use table::refusal::Refusal;
+use std::error::Error;
 use std::fmt;
+use table::refusal::Refusal;
 
-// A step of building declines, or Post does.
+/// Why a step of building a row, or the whole of it, is refused.
 #[derive(Clone, Copy, Debug, PartialEq, Eq)]
-pub enum BuildRefusal {
-    Building(BuildFault),
-    Posting(Refusal),
+pub enum TicketRefusal {
+    /// Begin: the bank has no kind with this letter.
+    UnknownLetter,
+    /// Begin: the body has no first byte, or it is not 1 to 32.
+    BadCount,
+    /// Begin: the body has another length than the letter asks for.
+    WrongLength,
+    /// Begin, Member, Close: the memory is shorter than the row.
+    ShortMemory,
+    /// Member: the row has all its members.
+    AllGiven,
+    /// Close: the row lacks members.
+    MembersMissing,
+    /// Close: Post refuses the row.
+    Post(Refusal),
 }
 
-impl BuildRefusal {
-    // The refusal's number.
+impl TicketRefusal {
+    /// The refusal's number. A short memory has that of a wrong length.
     pub fn number(self) -> u8
-        ensures { result ≡ build_number self }
+        ensures { result ≡ ticket_refusal_number self }
     {
         match self {
-            BuildRefusal::Building(fault) => fault.number(),
-            BuildRefusal::Posting(refusal) => refusal.number(),
+            TicketRefusal::UnknownLetter => 2,
+            TicketRefusal::BadCount => 5,
+            TicketRefusal::WrongLength => 6,
+            TicketRefusal::ShortMemory => 6,
+            TicketRefusal::AllGiven => 17,
+            TicketRefusal::MembersMissing => 18,
+            TicketRefusal::Post(refusal) => refusal.number(),
         }
     }
 }
 
-// The refusal's number, in decimal.
-impl fmt::Display for BuildRefusal {
-    ghost output = { λ refusal. Some (decimal (build_number refusal)) };
+// The refusal in words.
+impl fmt::Display for TicketRefusal {
+    ghost output = { λ refusal. Some (ticket_refusal_text refusal) };
 
     fn fmt<W: fmt::Write>(&self, f: &mut fmt::Formatter<W>) -> fmt::Result {
-        write!(f, "{}", self.number())
-    }
-}
-
-impl From<BuildFault> for BuildRefusal {
-    ghost from_gives = { λ fault r. r ≡ Building fault };
-
-    fn from(fault: BuildFault) -> BuildRefusal {
-        BuildRefusal::Building(fault)
-    }
-}
-
-// A ticket that is handed back is scrapped.
-impl From<Declined> for BuildRefusal {
-    ghost from_gives = { λ declined r. r ≡ Building declined.fault };
-
-    fn from(declined: Declined) -> BuildRefusal {
-        let Declined { ticket, fault } = declined;
-        scrap(ticket);
-        BuildRefusal::Building(fault)
-    }
-}
-
-impl From<CloseFault> for BuildRefusal {
-    ghost from_gives = { λ cause r. r ≡ refusal_of cause };
-
-    fn from(cause: CloseFault) -> BuildRefusal {
-        match cause {
-            CloseFault::HandedBack(declined) => BuildRefusal::from(declined),
-            CloseFault::Posting(refusal) => BuildRefusal::Posting(refusal),
+        match self {
+            TicketRefusal::UnknownLetter => f.write_str("the bank has no kind with this letter"),
+            TicketRefusal::BadCount => f.write_str("the count of members is not 1 to 32"),
+            TicketRefusal::WrongLength => f.write_str("the body's length is not the letter's"),
+            TicketRefusal::ShortMemory => f.write_str("the memory is shorter than the row"),
+            TicketRefusal::AllGiven => f.write_str("the row has all its members"),
+            TicketRefusal::MembersMissing => f.write_str("the row lacks members"),
+            TicketRefusal::Post(refusal) => write!(f, "Post refuses the row: {refusal}"),
         }
     }
 }
+
+impl Error for TicketRefusal {}

@@ -3,7 +3,7 @@ use Rattle.std.proofs.lemmas.Result.{err_from_is_err_and}
 use Rattle.std.proofs.lemmas.Int.{to_z-of_z}
 use Rattle.rows.specs.declared.member.Member.{Member}
 use Rattle.tickets.specs.declared.ticket.Ticket.{Ticket}
-use Rattle.tickets.specs.declared.ticket.Declined.{Declined}
+use Rattle.tickets.specs.declared.ticket.HandedBack.{HandedBack}
 use Rattle.tickets.proofs.Giving.{given_none, given_more, given_all, given_full, item_bytes}
 use Rattle.tickets.proofs.whole.give_members.Goals as goal
 
@@ -29,7 +29,7 @@ returns-in_err-current c =
     let v = get_or c.to_le_bytes.result 0 0 in
     let z = to_z w16 (of_z w16 x.argument) in
     let p = err_from_is_err_and c.from_residual.result c.from_residual.ensures.1 in
-    let err : Declined → Result Ticket Declined = λ d. Err d in
+    let err : HandedBack → Result Ticket HandedBack = λ d. Err d in
     let r = given_full c.args.ticket c.loop-member.current c.args.memory.now c.loop-member.memory c.give_member.new.memory
     c.args.members.now c.loop-member.member-index v z c.in_err-current.field-0.0 c.requires.within c.requires.room c.loop-member.auto.memory c.loop-member-test.true
     c.loop-member.invariant c.in_err-current.ensures.value c.in_err-current.ensures.after in

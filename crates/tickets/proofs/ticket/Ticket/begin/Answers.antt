@@ -2,7 +2,7 @@ use Rattle.std.proofs.Common.{◌≡◌, ◌∷◌, ◌∙◌, rules}
 use Rattle.rows.specs.Written.{written}
 use Rattle.rows.proofs.Texts.{wrote_two, wrote_front}
 use Rattle.tickets.proofs.Verdicts.{begun}
-use Rattle.tickets.proofs.steps.begin.Goals as goal
+use Rattle.tickets.proofs.ticket.Ticket.begin.Goals as goal
 
 pub returns-clause-after : goal.returns-clause-after
 returns-clause-after g c =
