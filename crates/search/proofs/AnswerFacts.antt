@@ -10,7 +10,7 @@ use Rattle.stores.specs.Stores.{View}
 use Rattle.search.proofs.AnyStore.{any}
 use Rattle.search.specs.Search.{Place, Steps}
 use Rattle.search.specs.Calls.{Table, Call, Answer, Formed, Judgement, reasons, judged, over, place_answer, result, OpensNodes, Solved, Does}
-use Rattle.search.specs.Histories.{History, declared_voices, posted_rows}
+use Rattle.search.specs.Histories.{History, keys_lost, declared_voices, posted_rows}
 use Rattle.rows.specs.Placed.{Least, Lawless, SameLeast}
 use Rattle.search.specs.Results.{Invariant, Reads, SolveMeans, finished, Budgeted}
 use Rattle.search.specs.Calls.Call.{declare, post, solve, read, wipe}
@@ -29,13 +29,13 @@ pub record Unaltered (n : ℕ) (t u : Table) : Type 0 where
   pub rows : u.rows ≡ t.rows
   pub opened : u.opened ≡ t.opened + n
 
-pub goes_kept : {m : Meaning} {n : ℕ} {t : Table} {v : View} {u : Table} {w : View} → OpensNodes any m n t v u w → Unaltered n t u
+pub goes_kept : {m : Meaning} {n : ℕ} {t : Table} {v : View} {u : Table} {w : View} {k : ℕ} → OpensNodes any m n t v u w k → Unaltered n t u
 goes_kept (OpensNodes.stay t v) = record { voices = refl; rows = refl; opened = omega arith }
-goes_kept (OpensNodes.more b t u v w x p n k S G) = let r = goes_kept G in record { voices = r.voices; rows = r.rows; opened = omega (arith, r.opened) }
+goes_kept (OpensNodes.more b t u v w x p n k j S G) = let r = goes_kept G in record { voices = r.voices; rows = r.rows; opened = omega (arith, r.opened) }
 
-goes_over : {m : Meaning} {n : ℕ} {t : Table} {v : View} {u : Table} {w : View} → OpensNodes any m n t v u w → over t.place ≡ true → (u ≡ t) × (w ≡ v)
+goes_over : {m : Meaning} {n : ℕ} {t : Table} {v : View} {u : Table} {w : View} {k : ℕ} → OpensNodes any m n t v u w k → over t.place ≡ true → (u ≡ t) × (w ≡ v)
 goes_over (OpensNodes.stay t v) o = (refl, refl)
-goes_over (OpensNodes.more b t u v w x p n k S G) o = absurd (both_ways (over t.place) (steps_not_over S) o)
+goes_over (OpensNodes.more b t u v w x p n k j S G) o = absurd (both_ways (over t.place) (steps_not_over S) o)
 
 abbrev Stops : Answer → Type 0
 Stops Answer.done = ⊥
@@ -57,8 +57,8 @@ open_stops (Place.going l ls) e = refl
 open_stops (Place.found p) e = absurd (both_ways true e refl)
 open_stops Place.none e = absurd (both_ways true e refl)
 
-solved : (m : Meaning) (t : Table) (v : View) (b : ℕ) (u : Table) (w : View) → Solved any m b t v u w → Budgeted t b (place_answer u.place) u
-solved m t v b u w S =
+solved : (m : Meaning) (t : Table) (v : View) (b : ℕ) (u : Table) (w : View) (k : ℕ) → Solved any m b t v u w k → Budgeted t b (place_answer u.place) u
+solved m t v b u w lost S =
     let k = goes_kept S.goes in
     record {
       at_least = omega (arith, k.opened);
@@ -78,7 +78,7 @@ solved m t v b u w S =
 pub solve_keeps_budget : (m : Meaning) (t : Table) (v : View) (b : ℕ) (a : Answer) (u : Table) (w : View)
     → judged m t (solve b) ≡ Judgement.passes → Does any m t v (solve b) a u w → Budgeted t b a u
 solve_keeps_budget m t v b a u w j (Does.declines c n d) = absurd (not_both d j)
-solve_keeps_budget m t v b a u w j (Does.solves b' u' w' _ S) = solved m t v b u w S
+solve_keeps_budget m t v b a u w j (Does.solves b' u' w' k _ S) = solved m t v b u w k S
 
 -- ---- the voices and rows of a history
 
@@ -105,7 +105,7 @@ given_after {m} {t} h (Does.declines c n j) g = (refused_voices m t h c n j ∙ 
 given_after h (Does.declares s w j e) g = (ap (λ (x : List ℕ). x ++ (s ∷ [])) g.0, g.1)
 given_after {m} h (Does.posts bs w j e) g = (g.0, ap (λ (x : List RowData). x ++ (decode m bs ∷ [])) g.1)
 given_after h (Does.wipes w e) g = (refl, refl)
-given_after h (Does.solves b u w j S) g = let k = goes_kept S.goes in (g.0 ∙ sym k.voices, g.1 ∙ sym k.rows)
+given_after h (Does.solves b u w k j S) g = let k = goes_kept S.goes in (g.0 ∙ sym k.voices, g.1 ∙ sym k.rows)
 given_after h (Does.reads buffer p j e) g = g
 
 given : {m : Meaning} {g : View} {h : List (Call × Answer)} {t : Table} {v : View} → History any m g h t v → Given m h t
@@ -123,22 +123,23 @@ last : {m : Meaning} {h : List (Call × Answer)} {t : Table} {v : View} → {g :
 last (History.made v e) = tt
 last (History.then h t u v w c a H o d) = (t, v, H, d, o)
 
-says_of : (m : Meaning) (t : Table) (v : View) → Invariant m t v → (x : Place) → t.place ≡ x → SolveMeans m t.voices t.rows (place_answer x)
-says_of m t v s Place.fresh e = tt
-says_of m t v s (Place.going l ls) e = tt
-says_of m t v s (Place.found p) e = s.found_least p e
-says_of m t v s Place.none e = s.none_lawful e
+says_of : (m : Meaning) (lost : ℕ) (t : Table) (v : View) → Invariant m lost t v → (x : Place) → t.place ≡ x → SolveMeans m t.voices t.rows (place_answer x)
+says_of m lost t v s Place.fresh e = tt
+says_of m lost t v s (Place.going l ls) e = tt
+says_of m lost t v s (Place.found p) e = s.found_least p e
+says_of m lost t v s Place.none e = s.none_lawful e
 
-says_after : (m : Meaning) (t : Table) (v : View) (b : ℕ) (a : Answer) (u : Table) (w : View) → Does any m t v (solve b) a u w → Invariant m u w → SolveMeans m u.voices u.rows a
-says_after m t v b a u w (Does.declines c n d) s = tt
-says_after m t v b a u w (Does.solves b' u' w' _ S) s = says_of m u w s u.place refl
+says_after : (m : Meaning) (lost : ℕ) (t : Table) (v : View) (b : ℕ) (a : Answer) (u : Table) (w : View) → Does any m t v (solve b) a u w → Invariant m lost u w
+    → SolveMeans m u.voices u.rows a
+says_after m lost t v b a u w (Does.declines c n d) s = tt
+says_after m lost t v b a u w (Does.solves b' u' w' k _ S) s = says_of m lost u w s u.place refl
 
 answer_holds : (m : Meaning) → Laws m → (h : List (Call × Answer)) (b : ℕ) (a : Answer) (t : Table) (v : View)
     → {g : View} → History any m g ((solve b, a) ∷ h) t v → SolveMeans m (declared_voices h) (posted_rows m h) a
 answer_holds m L h b a t v H =
     let g = given H in
     let (x, y, _, d, _) = last H in
-    subst₂ (λ (vs : List ℕ) (rs : List RowData). SolveMeans m vs rs a) (sym g.0) (sym g.1) (says_after m x y b a t v d (invariant_holds m L ((solve b, a) ∷ h) t v H))
+    subst₂ (λ (vs : List ℕ) (rs : List RowData). SolveMeans m vs rs a) (sym g.0) (sym g.1) (says_after m (keys_lost H) x y b a t v d (invariant_holds m L ((solve b, a) ∷ h) t v H))
 
 pub answers_hold : (m : Meaning) → Laws m → (later before : List (Call × Answer)) (b : ℕ) (a : Answer) (t : Table) (v : View)
     → {g : View} → History any m g (later ++ ((solve b, a) ∷ before)) t v → SolveMeans m (declared_voices before) (posted_rows m before) a

@@ -1,5 +1,5 @@
 -- Where the search branches, the level's voice is the lowest that is not fixed, and nothing is missed by passing over the voices below.
-use Rattle.std.proofs.Common.{◌≡◌, ℕ, ◌<◌, ◌≤◌, Bool, true, false, List, [], ◌∷◌, length, get_or, drop, sym, refl, ap, ◌∙◌, subst, inl, inr, arith}
+use Rattle.std.proofs.Common.{◌≡◌, ℕ, ◌+◌, ◌<◌, ◌≤◌, Bool, true, false, List, [], ◌∷◌, length, get_or, drop, sym, refl, ap, ◌∙◌, subst, inl, inr, arith}
 use Rattle.std.proofs.lemmas.Bool.{both_ways, cases_Bool, cases_lt}
 use Rattle.std.proofs.lemmas.List.{length-drop}
 use Rattle.sets.specs.Sets.{fixed}
@@ -12,7 +12,7 @@ use Rattle.search.proofs.AnyStore.{any}
 use Rattle.search.specs.Search.{Level, Place, Node, Lowest, below, first_open, level_of, node, child, taken, BacksUp, Opens, Steps}
 use Rattle.search.specs.Propagation.{propagated}
 use Rattle.search.specs.Calls.{Table, Call, Answer, OpensNodes, Does}
-use Rattle.search.specs.Histories.{History}
+use Rattle.search.specs.Histories.{History, keys_lost}
 use Rattle.search.specs.Branching.{AboveNewest, Ascending, NodeLowest, TableLowest, Rising}
 use Rattle.rows.specs.Placed.{AllAccepted}
 use Rattle.search.specs.Search.Place.{fresh, going}
@@ -108,8 +108,8 @@ module _ (m : Meaning) (L : Laws m) (rows : List RowData) (voices : List ℕ) (o
       at : (l : Level) (ls : List Level) → x ≡ going l ls → Stage m rows voices (going l ls) v o e
       at l ls h = subst (λ (y : Place). Stage m rows voices y v o e) h st
 
-fit_looks : (m : Meaning) → Laws m → (t : Table) (v : View) → Fit m t v → TableLowest m t v
-fit_looks m L t v f =
+fit_looks : (m : Meaning) → Laws m → (lost : ℕ) (t : Table) (v : View) → Fit m lost t v → TableLowest m t v
+fit_looks m L lost t v f =
     let x = looks m L t.rows t.voices f.okay f.proper t.place v t.opened t.exhausted f.stage in
     record {
       levels = x.0;
@@ -118,8 +118,8 @@ fit_looks m L t v f =
     }
 
 pub branches_lowest : (m : Meaning) → Laws m → (h : List (Call × Answer)) (t : Table) (v : View) → {g : View} → History any m g h t v
-    → (n : ℕ) (u : Table) (w : View) → OpensNodes any m n t v u w → TableLowest m u w
-branches_lowest m L h t v H n u w G = fit_looks m L u w (goes m L G (fit m L H))
+    → (n k : ℕ) (u : Table) (w : View) → OpensNodes any m n t v u w k → TableLowest m u w
+branches_lowest m L h t v H n k u w G = fit_looks m L (keys_lost H + k) u w (goes m L G (keys_lost H) (fit m L H))
 
 -- ---- with no law of the bank
 
@@ -153,16 +153,16 @@ rise_steps : {m : Meaning} {voices : List ℕ} {rows : List RowData} {p : Place}
 rise_steps (Steps.first v w p n k O) r = rise_opens O tt
 rise_steps (Steps.again l ls v w p n k O) r = rise_opens O r
 
-rise_goes : {m : Meaning} {n : ℕ} {t : Table} {v : View} {u : Table} {w : View} → OpensNodes any m n t v u w → PlaceRises t.place → PlaceRises u.place
+rise_goes : {m : Meaning} {n : ℕ} {t : Table} {v : View} {u : Table} {w : View} {k : ℕ} → OpensNodes any m n t v u w k → PlaceRises t.place → PlaceRises u.place
 rise_goes (OpensNodes.stay t v) r = r
-rise_goes (OpensNodes.more b t u v w x p n k S G) r = rise_goes G (rise_steps S r)
+rise_goes (OpensNodes.more b t u v w x p n k j S G) r = rise_goes G (rise_steps S r)
 
 rise_does : {m : Meaning} {t : Table} {v : View} {c : Call} {a : Answer} {u : Table} {w : View} → Does any m t v c a u w → PlaceRises t.place → PlaceRises u.place
 rise_does (Does.declines c n j) r = r
 rise_does (Does.declares s w j e) r = tt
 rise_does (Does.posts bs w j e) r = tt
 rise_does (Does.wipes w e) r = tt
-rise_does (Does.solves b u w j S) r = rise_goes S.goes r
+rise_does (Does.solves b u w k j S) r = rise_goes S.goes r
 rise_does (Does.reads buffer p j e) r = r
 
 rise_history : {m : Meaning} {g : View} {h : List (Call × Answer)} {t : Table} {v : View} → History any m g h t v → PlaceRises t.place
@@ -170,5 +170,5 @@ rise_history (History.made v e) = tt
 rise_history (History.then h t u v w c a H o d) = rise_does d (rise_history H)
 
 pub levels_rise : (m : Meaning) (h : List (Call × Answer)) (t : Table) (v : View) → {g : View} → History any m g h t v
-    → (n : ℕ) (u : Table) (w : View) → OpensNodes any m n t v u w → (l : Level) (ls : List Level) → u.place ≡ going l ls → Rising (l ∷ ls)
-levels_rise m h t v H n u w G l ls e = subst PlaceRises e (rise_goes G (rise_history H))
+    → (n k : ℕ) (u : Table) (w : View) → OpensNodes any m n t v u w k → (l : Level) (ls : List Level) → u.place ≡ going l ls → Rising (l ∷ ls)
+levels_rise m h t v H n k u w G l ls e = subst PlaceRises e (rise_goes G (rise_history H))

@@ -11,20 +11,20 @@ use Rattle.rows.proofs.Layouts.{bytes_both_ways}
 use Rattle.stores.specs.Stores.{member, View, distinct_keys}
 use Rattle.search.proofs.AnyStore.{any}
 use Rattle.search.specs.Search.{Place}
-use Rattle.search.specs.Calls.{Table, Call, Answer, Formed, Judgement, reasons, judge, judged, declined_under, OpensNodes, Does, empty}
-use Rattle.search.specs.Histories.{History}
+use Rattle.search.specs.Calls.{Table, Call, Answer, Formed, Judgement, reasons, judge, judged, declined_under, OpensNodes, Does, lost_after, empty}
+use Rattle.search.specs.Histories.{History, keys_lost}
 use Rattle.search.specs.Results.{Invariant}
 use Rattle.rows.specs.Placed.{AllAccepted}
 use Rattle.search.specs.Search.Place.{fresh, going, found, none}
 use Rattle.search.specs.Calls.Call.{declare, post}
 use Rattle.search.proofs.NodeFacts.{Stage, SoundStore, steps}
 
--- the invariant of a table and its store
-pub record Fit (m : Meaning) (t : Table) (v : View) : Type 0 where
+-- the invariant of a table and its store, where so many keys were lost
+pub record Fit (m : Meaning) (lost : ℕ) (t : Table) (v : View) : Type 0 where
   pub proper : Proper t.voices
   pub okay : AllAccepted m t.rows (length t.voices)
   pub stage : Stage m t.rows t.voices t.place v t.opened t.exhausted
-  pub store : SoundStore m t.rows (length t.voices) v t.exhausted t.lost
+  pub store : SoundStore m t.rows (length t.voices) v t.exhausted lost
 
 empty_store : (m : Meaning) (rows : List RowData) (n : ℕ) (v : View) → v.held ≡ [] → SoundStore m rows n v 0 0
 empty_store m rows n v e = record {
@@ -91,36 +91,38 @@ posted_row m t bs j b =
     record { shape = ((bytes_both_ways m).1 bs b (layout m t bs j)).0.shape; yes = verdict (m.accepts (decode m bs) (length t.voices)) f.0 f.1.0 }
 
 module _ (m : Meaning) (L : Laws m) where
-  pub goes : {b : ℕ} {t : Table} {v : View} {u : Table} {w : View} → OpensNodes any m b t v u w → Fit m t v → Fit m u w
-  goes (OpensNodes.stay t v) f = f
-  goes (OpensNodes.more b t u v w x p n k S G) f =
-      let next = steps m L t.rows t.voices f.okay f.proper S t.opened t.exhausted t.lost (f.stage, f.store) in
-      goes G (record { proper = f.proper; okay = f.okay; stage = next.0; store = next.1 })
+  pub goes : {b : ℕ} {t : Table} {v : View} {u : Table} {w : View} {k : ℕ} → OpensNodes any m b t v u w k → (lost : ℕ) → Fit m lost t v → Fit m (lost + k) u w
+  goes (OpensNodes.stay t v) lost f = subst (λ (i : ℕ). Fit m i t v) (omega arith) f
+  goes (OpensNodes.more b t u v w x p n k j S G) lost f =
+      let next = steps m L t.rows t.voices f.okay f.proper S t.opened t.exhausted lost (f.stage, f.store) in
+      let same : (lost + k) + j ≡ lost + (k + j) = omega arith in
+      subst (λ (i : ℕ). Fit m i u x) same (goes G (lost + k) (record { proper = f.proper; okay = f.okay; stage = next.0; store = next.1 }))
 
-  made : (v : View) → v.held ≡ [] → Fit m empty v
+  made : (v : View) → v.held ≡ [] → Fit m 0 empty v
   made v e = record { proper = λ i l. absurd (omega arith); okay = tt; stage = refl; store = empty_store m [] 0 v e }
 
-  does : {t : Table} {v : View} {c : Call} {a : Answer} {u : Table} {w : View} → Does any m t v c a u w → Formed c → Fit m t v → Fit m u w
-  does (Does.declines c n j) o f = f
-  does {t} (Does.declares s w j e) o f = record {
+  does : {t : Table} {v : View} {c : Call} {a : Answer} {u : Table} {w : View} (D : Does any m t v c a u w) → Formed c → (lost : ℕ) → Fit m lost t v
+      → Fit m (lost_after D lost) u w
+  does (Does.declines c n j) o lost f = f
+  does {t} (Does.declares s w j e) o lost f = record {
     proper = proper_push t.voices s (declared_set m t s j) o f.proper;
     okay = subst (AllAccepted m t.rows) (sym (length_push t.voices s)) (okay_more m L t.rows (length t.voices) f.okay);
     stage = refl;
     store = empty_store m t.rows (length (t.voices ++ (s ∷ []))) w e;
   }
-  does {t} (Does.posts bs w j e) o f = record {
+  does {t} (Does.posts bs w j e) o lost f = record {
     proper = f.proper;
     okay = okay_push m t.rows (decode m bs) (length t.voices) (posted_row m t bs j o) f.okay;
     stage = refl;
     store = empty_store m (t.rows ++ (decode m bs ∷ [])) (length t.voices) w e;
   }
-  does (Does.wipes w e) o f = made w e
-  does (Does.solves b u w j S) o f = goes S.goes f
-  does (Does.reads buffer p j e) o f = f
+  does (Does.wipes w e) o lost f = made w e
+  does (Does.solves b u w k j S) o lost f = goes S.goes lost f
+  does (Does.reads buffer p j e) o lost f = f
 
-  pub fit : {g : View} {h : List (Call × Answer)} {t : Table} {v : View} → History any m g h t v → Fit m t v
+  pub fit : {g : View} {h : List (Call × Answer)} {t : Table} {v : View} (H : History any m g h t v) → Fit m (keys_lost H) t v
   fit (History.made v e) = made v e
-  fit (History.then h t u v w c a H o d) = does d o (fit H)
+  fit (History.then h t u v w c a H o d) = does d o (keys_lost H) (fit H)
 
   bounded : (rows : List RowData) (voices : List ℕ) (v : View) (o e : ℕ) (p : Place) → Stage m rows voices p v o e → o ≤ 1 + 64 * (e + length voices)
   bounded rows voices v o e fresh s = omega arith
@@ -130,7 +132,7 @@ module _ (m : Meaning) (L : Laws m) where
   bounded rows voices v o e (found p) s = s.2
   bounded rows voices v o e none s = s.1
 
-  pub invariant_holds : (h : List (Call × Answer)) (t : Table) (v : View) → {g : View} → History any m g h t v → Invariant m t v
+  pub invariant_holds : (h : List (Call × Answer)) (t : Table) (v : View) → {g : View} (H : History any m g h t v) → Invariant m (keys_lost H) t v
   invariant_holds h t v H =
       let f = fit H in
       let at : (p : Place) → t.place ≡ p → Stage m t.rows t.voices p v t.opened t.exhausted =

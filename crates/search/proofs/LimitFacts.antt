@@ -62,7 +62,7 @@ module _ (m : Meaning) where
         opened = omega arith;
       }
   limits_after (Does.wipes w e) o f = none_yet
-  limits_after {t} {v} (Does.solves b u w j S) o f =
+  limits_after {t} {v} (Does.solves b u w lost j S) o f =
       let k = goes_kept S.goes in
       record {
         voices = subst (λ (x : List ℕ). length x ≤ most_voices) (sym k.voices) f.voices;
@@ -70,7 +70,7 @@ module _ (m : Meaning) where
         rows = subst (λ (x : List RowData). length x ≤ most_rows) (sym k.rows) f.rows;
         bytes = subst (λ (x : List RowData). total_bytes x ≤ most_bytes) (sym k.rows) f.bytes;
         laid_out = subst (AllLaidOut m) (sym k.rows) f.laid_out;
-        opened = solve_limit t v b u w j (Does.solves b u w j S) f.opened;
+        opened = solve_limit t v b u w j (Does.solves b u w lost j S) f.opened;
       }
   limits_after (Does.reads buffer p j e) o f = f
 

@@ -8,8 +8,8 @@ use Rattle.stores.specs.Behaviours.{Behaviour, Decided}
 use Rattle.stores.specs.declared.store.Stored.{Stored}
 use Rattle.search.specs.Search.{Level, Place, Node, node, below, child, taken, BacksUp, Opens, Steps}
 use Rattle.search.specs.Propagation.{propagated}
-use Rattle.search.specs.Calls.{Table, begun, empty, Call, Answer, Judgement, judged, reasons, over, is_found, place_answer, result, OpensNodes, Solved, Does}
-use Rattle.search.specs.Histories.{History, calls_in}
+use Rattle.search.specs.Calls.{Table, begun, empty, Call, Answer, Judgement, judged, reasons, over, is_found, place_answer, result, node_more, OpensNodes, Solved, Does, lost_after}
+use Rattle.search.specs.Histories.{History, keys_lost, calls_in}
 use Rattle.search.specs.CallOutcomes.{CallOutcome}
 use Rattle.search.specs.Theorems.{OneOutcome, OneHistory}
 use Rattle.stores.specs.declared.store.Stored.TheVariants.{Kept, Lost}
@@ -62,12 +62,20 @@ module _ (store : Behaviour) (d : Decided store) (m : Meaning) where
   step voices rows none v = record { place = none; state = v; exhausts = 0; loses = 0 }
 
   abbrev pub next : Table → Ran store.State → Table
-  next t r = record { voices = t.voices; rows = t.rows; place = r.place; opened = t.opened + 1; exhausted = t.exhausted + r.exhausts; lost = t.lost + r.loses }
+  next t r = node_more t r.place r.exhausts
 
-  abbrev pub run : ℕ → Table → store.State → Table × store.State
-  run zero t v = (t, v)
-  run (suc b) t v =
-      elim (over t.place) [ true ↦ (t, v) | false ↦ run b (next t (step t.voices t.rows t.place v)) (step t.voices t.rows t.place v).state ]
+  -- with as many keys lost before
+  abbrev pub lost_first : ℕ → Table × store.State × ℕ → Table × store.State × ℕ
+  lost_first k x = (x.0, x.1, k + x.2)
+
+  -- one node, and then the others
+  abbrev pub run_on : (Table → store.State → Table × store.State × ℕ) → Table → Ran store.State → Table × store.State × ℕ
+  run_on others t r = lost_first r.loses (others (next t r) r.state)
+
+  -- the table, the store's state, and how many keys were lost
+  abbrev pub run : ℕ → Table → store.State → Table × store.State × ℕ
+  run zero t v = (t, v, 0)
+  run (suc b) t v = elim (over t.place) [ true ↦ (t, v, 0) | false ↦ run_on (run b) t (step t.voices t.rows t.place v) ]
 
   -- ---- what a relation gives is what the function gives
 
@@ -106,47 +114,56 @@ module _ (store : Behaviour) (d : Decided store) (m : Meaning) where
   step_is (Steps.first v w p n k O) = opens_is O
   step_is (Steps.again l ls v w p n k O) = opens_is O
 
-  run_over : (b : ℕ) (t : Table) (v : store.State) → over t.place ≡ true → run b t v ≡ (t, v)
+  run_over : (b : ℕ) (t : Table) (v : store.State) → over t.place ≡ true → run b t v ≡ (t, v, 0)
   run_over zero t v e = refl
-  run_over (suc b) t v e =
-      ap (λ (x : Bool). elim x [ true ↦ (t, v) | false ↦ run b (next t (step t.voices t.rows t.place v)) (step t.voices t.rows t.place v).state ]) e
+  run_over (suc b) t v e = ap (λ (x : Bool). elim x [ true ↦ (t, v, 0) | false ↦ run_on (run b) t (step t.voices t.rows t.place v) ]) e
 
-  run_more : (b : ℕ) (t : Table) (v : store.State) → over t.place ≡ false
-      → run (suc b) t v ≡ run b (next t (step t.voices t.rows t.place v)) (step t.voices t.rows t.place v).state
-  run_more b t v e =
-      ap (λ (x : Bool). elim x [ true ↦ (t, v) | false ↦ run b (next t (step t.voices t.rows t.place v)) (step t.voices t.rows t.place v).state ]) e
+  run_more : (b : ℕ) (t : Table) (v : store.State) → over t.place ≡ false → run (suc b) t v ≡ run_on (run b) t (step t.voices t.rows t.place v)
+  run_more b t v e = ap (λ (x : Bool). elim x [ true ↦ (t, v, 0) | false ↦ run_on (run b) t (step t.voices t.rows t.place v) ]) e
 
-  run_is : {n : ℕ} {t : Table} {v : store.State} {u : Table} {w : store.State} (G : OpensNodes store m n t v u w) → (b : ℕ) → n ≤ b → (over u.place ≡ true) ⊎ (n ≡ b) → run b t v ≡ (u, w)
+  run_is : {n : ℕ} {t : Table} {v : store.State} {u : Table} {w : store.State} {k : ℕ} (G : OpensNodes store m n t v u w k) → (b : ℕ) → n ≤ b
+      → (over u.place ≡ true) ⊎ (n ≡ b) → run b t v ≡ (u, w, k)
   run_is (OpensNodes.stay t v) zero l e = refl
   run_is (OpensNodes.stay t v) (suc b) l e = elim e [ inl o ↦ run_over (suc b) t v o | inr o ↦ absurd (omega arith) ]
-  run_is (OpensNodes.more n t u v w x p i k S G) zero l e = absurd (omega arith)
-  run_is (OpensNodes.more n t u v w x p i k S G) (suc b) l e =
+  run_is (OpensNodes.more n t u v w x p i k j S G) zero l e = absurd (omega arith)
+  run_is (OpensNodes.more n t u v w x p i k j S G) (suc b) l e =
       run_more b t v (steps_open store m S)
-      ∙ ap (λ (r : Ran store.State). run b (next t r) r.state) (step_is S)
-      ∙ run_is G b (omega arith) (elim e [ inl o ↦ inl o | inr o ↦ inr (omega arith) ])
+      ∙ ap (run_on (run b) t) (step_is S)
+      ∙ ap (lost_first k) (run_is G b (omega arith) (elim e [ inl o ↦ inl o | inr o ↦ inr (omega arith) ]))
 
-  abbrev pub comes : Table → store.State → Call → Judgement → Answer × Table × store.State
-  comes t v c (declined n) = (Answer.refused n, t, v)
-  comes t v (declare x) passes = (Answer.done, begun (t.voices ++ (x ∷ [])) t.rows, d.emptied v)
-  comes t v (post bs) passes = (Answer.done, begun t.voices (t.rows ++ (decode m bs ∷ [])), d.emptied v)
-  comes t v (solve b) passes = (place_answer (run b t v).0.place, (run b t v).0, (run b t v).1)
-  comes t v (read buffer) passes = (Answer.wrote (length (result t.place)) (result t.place ++ drop (length (result t.place)) buffer), t, v)
-  comes t v wipe passes = (Answer.done, empty, d.emptied v)
+  -- what a call comes to, where i keys were lost before, and how many are lost then
+  abbrev pub comes : ℕ → Table → store.State → Call → Judgement → Answer × Table × store.State × ℕ
+  comes i t v c (declined n) = (Answer.refused n, t, v, i)
+  comes i t v (declare x) passes = (Answer.done, begun (t.voices ++ (x ∷ [])) t.rows, d.emptied v, 0)
+  comes i t v (post bs) passes = (Answer.done, begun t.voices (t.rows ++ (decode m bs ∷ [])), d.emptied v, 0)
+  comes i t v (solve b) passes = (place_answer (run b t v).0.place, (run b t v).0, (run b t v).1, i + (run b t v).2)
+  comes i t v (read buffer) passes = (Answer.wrote (length (result t.place)) (result t.place ++ drop (length (result t.place)) buffer), t, v, i)
+  comes i t v wipe passes = (Answer.done, empty, d.emptied v, 0)
 
-  pub does_is : {t : Table} {v : store.State} {c : Call} {a : Answer} {u : Table} {w : store.State} (D : Does store m t v c a u w) → comes t v c (judged m t c) ≡ (a, u, w)
-  does_is {t} {v} (Does.declines c n j) = ap (comes t v c) j
-  does_is {t} {v} (Does.declares x w j e) = ap (comes t v (declare x)) j ∙ ap (λ (z : store.State). (Answer.done, begun (t.voices ++ (x ∷ [])) t.rows, z)) (sym (d.emptied_only v w e))
-  does_is {t} {v} (Does.posts bs w j e) = ap (comes t v (post bs)) j ∙ ap (λ (z : store.State). (Answer.done, begun t.voices (t.rows ++ (decode m bs ∷ [])), z)) (sym (d.emptied_only v w e))
-  does_is {t} {v} (Does.wipes w e) = ap (λ (z : store.State). (Answer.done, empty, z)) (sym (d.emptied_only v w e))
-  does_is {t} {v} (Does.solves b u w j S) =
-      ap (comes t v (solve b)) j ∙ ap (λ (r : Table × store.State). (place_answer r.0.place, r.0, r.1)) (run_is S.goes b S.inside S.ends)
-  does_is {t} {v} (Does.reads buffer p j e) =
-      ap (comes t v (read buffer)) j ∙ ap (λ (x : Place). (Answer.wrote (length (result x)) (result x ++ drop (length (result x)) buffer), t, v)) e
+  pub does_is : {t : Table} {v : store.State} {c : Call} {a : Answer} {u : Table} {w : store.State} (D : Does store m t v c a u w) (i : ℕ)
+      → comes i t v c (judged m t c) ≡ (a, u, w, lost_after D i)
+  does_is {t} {v} (Does.declines c n j) i = ap (comes i t v c) j
+  does_is {t} {v} (Does.declares x w j e) i =
+      ap (comes i t v (declare x)) j ∙ ap (λ (z : store.State). (Answer.done, begun (t.voices ++ (x ∷ [])) t.rows, z, zero)) (sym (d.emptied_only v w e))
+  does_is {t} {v} (Does.posts bs w j e) i =
+      ap (comes i t v (post bs)) j ∙ ap (λ (z : store.State). (Answer.done, begun t.voices (t.rows ++ (decode m bs ∷ [])), z, zero)) (sym (d.emptied_only v w e))
+  does_is {t} {v} (Does.wipes w e) i = ap (λ (z : store.State). (Answer.done, empty, z, zero)) (sym (d.emptied_only v w e))
+  does_is {t} {v} (Does.solves b u w k j S) i =
+      ap (comes i t v (solve b)) j ∙ ap (λ (r : Table × store.State × ℕ). (place_answer r.0.place, r.0, r.1, i + r.2)) (run_is S.goes b S.inside S.ends)
+  does_is {t} {v} (Does.reads buffer p j e) i =
+      ap (comes i t v (read buffer)) j ∙ ap (λ (x : Place). (Answer.wrote (length (result x)) (result x ++ drop (length (result x)) buffer), t, v, i)) e
 
-  only_one : (t : Table) (v : store.State) (c : Call) (x y : CallOutcome store m t v c) → (x.answer ≡ y.answer) × (x.table ≡ y.table) × (x.state ≡ y.state)
-  only_one t v c x y =
-      let e : (x.answer, x.table, x.state) ≡ (y.answer, y.table, y.state) = sym (does_is x.does) ∙ does_is y.does in
-      (ap (λ (r : Answer × Table × store.State). r.0) e, ap (λ (r : Answer × Table × store.State). r.1) e, ap (λ (r : Answer × Table × store.State). r.2) e)
+  only_one : (t : Table) (v : store.State) (c : Call) (x y : CallOutcome store m t v c)
+      → (x.answer ≡ y.answer) × (x.table ≡ y.table) × (x.state ≡ y.state) × ((i : ℕ) → lost_after x.does i ≡ lost_after y.does i)
+  only_one t v c x y = (
+    ap (λ (r : Answer × Table × store.State × ℕ). r.0) (e 0),
+    ap (λ (r : Answer × Table × store.State × ℕ). r.1) (e 0),
+    ap (λ (r : Answer × Table × store.State × ℕ). r.2) (e 0),
+    (λ i. ap (λ (r : Answer × Table × store.State × ℕ). r.3) (e i)),
+  )
+    where
+      e : (i : ℕ) → ◌≡◌ {A = Answer × Table × store.State × ℕ} (x.answer, x.table, x.state, lost_after x.does i) (y.answer, y.table, y.state, lost_after y.does i)
+      e i = sym (does_is x.does i) ∙ does_is y.does i
 
   -- ---- there is an outcome
 
@@ -224,22 +241,24 @@ module _ (store : Behaviour) (d : Decided store) (m : Meaning) where
   record SomeSolve (b : ℕ) (t : Table) (v : store.State) : Type 0 where
     table : Table
     state : store.State
-    does : Solved store m b t v table state
+    loses : ℕ
+    does : Solved store m b t v table state loses
 
   some_solve : (b : ℕ) (t : Table) (v : store.State) → SomeSolve b t v
-  some_solve zero t v = record { table = t; state = v; does = record { count = 0; inside = omega arith; goes = OpensNodes.stay t v; ends = inr refl } }
+  some_solve zero t v = record { table = t; state = v; loses = 0; does = record { count = 0; inside = omega arith; goes = OpensNodes.stay t v; ends = inr refl } }
   some_solve (suc b) t v =
       elim (some_step t.voices t.rows t.place v) [
-        | inl e ↦ record { table = t; state = v; does = record { count = 0; inside = omega arith; goes = OpensNodes.stay t v; ends = inl e } }
+        | inl e ↦ record { table = t; state = v; loses = 0; does = record { count = 0; inside = omega arith; goes = OpensNodes.stay t v; ends = inl e } }
         | inr q ↦
             let r = some_solve b (next t (record { place = q.place; state = q.state; exhausts = q.exhausts; loses = q.loses })) q.state in
             record {
               table = r.table;
               state = r.state;
+              loses = q.loses + r.loses;
               does = record {
                 count = suc r.does.count;
                 inside = omega (arith, r.does.inside);
-                goes = OpensNodes.more r.does.count t r.table v q.state r.state q.place q.exhausts q.loses q.does r.does.goes;
+                goes = OpensNodes.more r.does.count t r.table v q.state r.state q.place q.exhausts q.loses r.loses q.does r.does.goes;
                 ends = elim r.does.ends [ inl e ↦ inl e | inr e ↦ inr (ap suc e) ];
               };
             }
@@ -262,7 +281,7 @@ module _ (store : Behaviour) (d : Decided store) (m : Meaning) where
           record { answer = Answer.done; table = begun t.voices (t.rows ++ (decode m bs ∷ [])); state = d.emptied v; does = Does.posts bs (d.emptied v) e (d.empties v) }
       go (solve b) passes e =
           let r = some_solve b t v in
-          record { answer = place_answer r.table.place; table = r.table; state = r.state; does = Does.solves b r.table r.state e r.does }
+          record { answer = place_answer r.table.place; table = r.table; state = r.state; does = Does.solves b r.table r.state r.loses e r.does }
       go (read buffer) passes e =
           let p = result t.place in
           record {
@@ -283,27 +302,33 @@ pub record Played (S : Type 0) : Type 0 where
   pub calls : List (Call × Answer)
   pub table : Table
   pub state : S
+  pub lost : ℕ
 
-abbrev pub noted : {S : Type 0} → Call → List (Call × Answer) → Answer × Table × S → Played S
-noted c h r = record { calls = (c, r.0) ∷ h; table = r.1; state = r.2 }
+abbrev pub noted : {S : Type 0} → Call → List (Call × Answer) → Answer × Table × S × ℕ → Played S
+noted c h r = record { calls = (c, r.0) ∷ h; table = r.1; state = r.2; lost = r.3 }
 
 module _ (store : Behaviour) (d : Decided store) (m : Meaning) (g : store.State) where
   -- one call more
   abbrev pub play : Call → Played store.State → Played store.State
-  play c p = noted c p.calls (comes store d m p.table p.state c (judged m p.table c))
+  play c p = noted c p.calls (comes store d m p.lost p.table p.state c (judged m p.table c))
 
   -- the newest call first
   abbrev pub replay : List Call → Played store.State
-  replay [] = record { calls = []; table = empty; state = d.emptied g }
+  replay [] = record { calls = []; table = empty; state = d.emptied g; lost = 0 }
   replay (c ∷ cs) = play c (replay cs)
 
   -- a history is what its calls come to when they are played
-  pub replayed : {h : List (Call × Answer)} {t : Table} {s : store.State} → History store m g h t s → replay (calls_in h) ≡ record { calls = h; table = t; state = s }
-  replayed (History.made s e) = ap (λ (x : store.State). record { calls = []; table = empty; state = x }) (sym (d.emptied_only g s e))
-  replayed (History.then h t u s r c a H f D) = ap (play c) (replayed H) ∙ ap (noted c h) (does_is store d m D)
+  pub replayed : {h : List (Call × Answer)} {t : Table} {s : store.State} (H : History store m g h t s)
+      → replay (calls_in h) ≡ record { calls = h; table = t; state = s; lost = keys_lost H }
+  replayed (History.made s e) = ap (λ (x : store.State). record { calls = []; table = empty; state = x; lost = 0 }) (sym (d.emptied_only g s e))
+  replayed (History.then h t u s r c a H f D) = ap (play c) (replayed H) ∙ ap (noted c h) (does_is store d m D (keys_lost H))
 
 pub one_history : (store : Behaviour) → Decided store → OneHistory store
 one_history store d m g h h' t t' s s' H H' e =
-    let same : record { calls = h; table = t; state = s } ≡ record { calls = h'; table = t'; state = s' } =
-    sym (replayed store d m g H) ∙ ap (replay store d m g) e ∙ replayed store d m g H' in
-    (ap (λ (p : Played store.State). p.calls) same, ap (λ (p : Played store.State). p.table) same, ap (λ (p : Played store.State). p.state) same)
+    let same : record { calls = h; table = t; state = s; lost = keys_lost H } ≡ record { calls = h'; table = t'; state = s'; lost = keys_lost H' } =
+    sym (replayed store d m g H) ∙ ap (replay store d m g) e ∙ replayed store d m g H' in (
+      ap (λ (p : Played store.State). p.calls) same,
+      ap (λ (p : Played store.State). p.table) same,
+      ap (λ (p : Played store.State). p.state) same,
+      ap (λ (p : Played store.State). p.lost) same,
+    )

@@ -1,5 +1,5 @@
 -- Where no key is lost, what a call does depends only on the keys that its store holds.
-use Rattle.std.proofs.Common.{◌≡◌, ℕ, zero, suc, ◌+◌, ◌≤◌, Bool, true, false, ◌||◌, eqb, ◌⊎◌, List, [], ◌∷◌, ◌++◌, length, drop, sym, refl, ap, ◌∙◌, subst, inl, inr, arith}
+use Rattle.std.proofs.Common.{◌≡◌, ℕ, zero, suc, ◌≤◌, Bool, true, false, ◌||◌, eqb, ◌⊎◌, List, [], ◌∷◌, ◌++◌, length, drop, sym, refl, ap, ◌∙◌, subst, inl, inr, arith}
 use Rattle.std.proofs.lemmas.Bool.{both_ways}
 use Rattle.sets.specs.Placings.{some_empty, all_fixed, values, same}
 use Rattle.rows.specs.Rows.{RowData, Meaning}
@@ -9,7 +9,7 @@ use Rattle.stores.specs.declared.store.Stored.TheVariants.{Kept}
 use Rattle.search.proofs.AnyStore.{any}
 use Rattle.search.specs.Search.{Level, Place, Node, node, level_of, below, child, taken, BacksUp, Opens, Steps}
 use Rattle.search.specs.Propagation.{propagated}
-use Rattle.search.specs.Calls.{Table, Call, Answer, Judgement, over, place_answer, result, OpensNodes, Does}
+use Rattle.search.specs.Calls.{Table, Call, Answer, Judgement, over, place_answer, result, node_more, OpensNodes, Does, lost_after}
 use Rattle.search.specs.CallOutcomes.{SameKeys}
 use Rattle.search.specs.Search.Place.{going, found, none}
 use Rattle.search.specs.Search.Node.{dead, solution, hit, branch}
@@ -96,35 +96,18 @@ module _ (m : Meaning) where
   steps_agree {voices} {rows} s (Steps.again l ls v w p n k O) (Steps.again l' ls' v' w' p' n' k' O') e e' =
       opens_agree rows (child l) (taken l ∷ ls) v v' s O O' e e'
 
-  -- losses only add up
-  goes_lost : {b : ℕ} {t : Table} {v : View} {u : Table} {w : View} → OpensNodes any m b t v u w → t.lost ≤ u.lost
-  goes_lost (OpensNodes.stay t v) = omega arith
-  goes_lost (OpensNodes.more b t u v w x p n k S G) = omega (arith, goes_lost G)
-
-  goes_agree : {i i' : ℕ} {t t' : Table} {v v' : View} {u u' : Table} {w w' : View} → OpensNodes any m i t v u w → OpensNodes any m i' t' v' u' w' → (b : ℕ) → t ≡ t' → SameKeys v v'
-      → i ≤ b → i' ≤ b → (over u.place ≡ true) ⊎ (i ≡ b) → (over u'.place ≡ true) ⊎ (i' ≡ b) → u.lost ≤ t.lost → u'.lost ≤ t'.lost → (u ≡ u') × SameKeys w w'
+  goes_agree : {i i' : ℕ} {t t' : Table} {v v' : View} {u u' : Table} {w w' : View} {k k' : ℕ} → OpensNodes any m i t v u w k → OpensNodes any m i' t' v' u' w' k'
+      → (b : ℕ) → t ≡ t' → SameKeys v v' → i ≤ b → i' ≤ b → (over u.place ≡ true) ⊎ (i ≡ b) → (over u'.place ≡ true) ⊎ (i' ≡ b) → k ≡ 0 → k' ≡ 0
+      → (u ≡ u') × SameKeys w w'
   goes_agree (OpensNodes.stay t v) (OpensNodes.stay t' v') b q s l l' e e' z z' = (q, s)
-  goes_agree (OpensNodes.stay t v) (OpensNodes.more i' t' u' v' w' x' p' n' k' S' G') b q s l l' e e' z z' =
+  goes_agree (OpensNodes.stay t v) (OpensNodes.more i' t' u' v' w' x' p' n' k' j' S' G') b q s l l' e e' z z' =
       elim e [ inl o ↦ absurd (both_ways (over t'.place) (steps_not_over S') (sym (ap (λ (x : Table). over x.place) q) ∙ o)) | inr o ↦ absurd (omega arith) ]
-  goes_agree (OpensNodes.more i t u v w x p n k S G) (OpensNodes.stay t' v') b q s l l' e e' z z' =
+  goes_agree (OpensNodes.more i t u v w x p n k j S G) (OpensNodes.stay t' v') b q s l l' e e' z z' =
       elim e' [ inl o ↦ absurd (both_ways (over t.place) (steps_not_over S) (ap (λ (x : Table). over x.place) q ∙ o)) | inr o ↦ absurd (omega arith) ]
-  goes_agree (OpensNodes.more i t u v w x p n k S G) (OpensNodes.more i' t' u' v' w' x' p' n' k' S' G') zero q s l l' e e' z z' = absurd (omega arith)
-  goes_agree (OpensNodes.more i t u v w x p n k S G) (OpensNodes.more i' t' u' v' w' x' p' n' k' S' G') (suc b) q s l l' e e' z z' =
-      let a = goes_lost G in
-      let a' = goes_lost G' in
-      let k0 : k ≡ 0 = omega arith in
-      let k0' : k' ≡ 0 = omega arith in
-      let r = steps_agree s S (subst (λ (y : Table). Steps any m y.voices y.rows y.place v' p' w' n' k') (sym q) S') k0 k0' in
-      goes_agree G G' b
-      (λ j. record {
-        voices = (q j).voices;
-        rows = (q j).rows;
-        place = r.0 j;
-        opened = (q j).opened + 1;
-        exhausted = (q j).exhausted + r.1 j;
-        lost = (q j).lost + (k0 ∙ sym k0') j;
-      })
-      r.2 (omega arith) (omega arith) (elim e [ inl o ↦ inl o | inr o ↦ inr (omega arith) ]) (elim e' [ inl o ↦ inl o | inr o ↦ inr (omega arith) ])
+  goes_agree (OpensNodes.more i t u v w x p n k j S G) (OpensNodes.more i' t' u' v' w' x' p' n' k' j' S' G') zero q s l l' e e' z z' = absurd (omega arith)
+  goes_agree (OpensNodes.more i t u v w x p n k j S G) (OpensNodes.more i' t' u' v' w' x' p' n' k' j' S' G') (suc b) q s l l' e e' z z' =
+      let r = steps_agree s S (subst (λ (y : Table). Steps any m y.voices y.rows y.place v' p' w' n' k') (sym q) S') (omega arith) (omega arith) in
+      goes_agree G G' b (λ j. node_more (q j) (r.0 j) (r.1 j)) r.2 (omega arith) (omega arith) (elim e [ inl o ↦ inl o | inr o ↦ inr (omega arith) ]) (elim e' [ inl o ↦ inl o | inr o ↦ inr (omega arith) ])
       (omega arith) (omega arith)
 
   abbrev number : Judgement → ℕ
@@ -135,27 +118,29 @@ module _ (m : Meaning) where
   none_held w w' e e' x = ap (member x) (e ∙ sym e')
 
   does_agree : (t : Table) (v v' : View) {c : Call} {a a' : Answer} {u u' : Table} {w w' : View} → SameKeys v v'
-      → Does any m t v c a u w → Does any m t v' c a' u' w' → u.lost ≤ t.lost → u'.lost ≤ t.lost → (a ≡ a') × (u ≡ u') × SameKeys w w'
-  does_agree t v v' s (Does.declines c n j) (Does.declines c' n' j') z z' = (ap (λ (x : Judgement). Answer.refused (number x)) (sym j ∙ j'), refl, s)
+      → (D : Does any m t v c a u w) (D' : Does any m t v' c a' u' w') → lost_after D 0 ≡ 0 → lost_after D' 0 ≡ 0
+      → (a ≡ a') × (u ≡ u') × SameKeys w w' × ((n : ℕ) → lost_after D n ≡ lost_after D' n)
+  does_agree t v v' s (Does.declines c n j) (Does.declines c' n' j') z z' = (ap (λ (x : Judgement). Answer.refused (number x)) (sym j ∙ j'), refl, s, λ i. refl)
   does_agree t v v' s (Does.declines c n j) (Does.declares x' w' j' e') z z' = absurd (not_both j j')
   does_agree t v v' s (Does.declines c n j) (Does.posts x' w' j' e') z z' = absurd (not_both j j')
   does_agree t v v' s (Does.declines c n j) (Does.wipes w' e') z z' = absurd (not_both j refl)
-  does_agree t v v' s (Does.declines c n j) (Does.solves b' u' w' j' S') z z' = absurd (not_both j j')
+  does_agree t v v' s (Does.declines c n j) (Does.solves b' u' w' k' j' S') z z' = absurd (not_both j j')
   does_agree t v v' s (Does.declines c n j) (Does.reads b' p' j' e') z z' = absurd (not_both j j')
   does_agree t v v' s (Does.declares x w j e) (Does.declines c n j') z z' = absurd (not_both j' j)
-  does_agree t v v' s (Does.declares x w j e) (Does.declares x' w' j' e') z z' = (refl, refl, none_held w w' e e')
+  does_agree t v v' s (Does.declares x w j e) (Does.declares x' w' j' e') z z' = (refl, refl, none_held w w' e e', λ i. refl)
   does_agree t v v' s (Does.posts x w j e) (Does.declines c n j') z z' = absurd (not_both j' j)
-  does_agree t v v' s (Does.posts x w j e) (Does.posts x' w' j' e') z z' = (refl, refl, none_held w w' e e')
+  does_agree t v v' s (Does.posts x w j e) (Does.posts x' w' j' e') z z' = (refl, refl, none_held w w' e e', λ i. refl)
   does_agree t v v' s (Does.wipes w e) (Does.declines c n j') z z' = absurd (not_both j' refl)
-  does_agree t v v' s (Does.wipes w e) (Does.wipes w' e') z z' = (refl, refl, none_held w w' e e')
-  does_agree t v v' s (Does.solves b u w j S) (Does.declines c n j') z z' = absurd (not_both j' j)
-  does_agree t v v' s (Does.solves b u w j S) (Does.solves b' u' w' j' S') z z' =
-      let r = goes_agree S.goes S'.goes b refl s S.inside S'.inside S.ends S'.ends z z' in
-      (ap (λ (x : Table). place_answer x.place) r.0, r.0, r.1)
+  does_agree t v v' s (Does.wipes w e) (Does.wipes w' e') z z' = (refl, refl, none_held w w' e e', λ i. refl)
+  does_agree t v v' s (Does.solves b u w k j S) (Does.declines c n j') z z' = absurd (not_both j' j)
+  does_agree t v v' s (Does.solves b u w k j S) (Does.solves b' u' w' k' j' S') z z' =
+      let r = goes_agree S.goes S'.goes b refl s S.inside S'.inside S.ends S'.ends (omega (arith, z)) (omega (arith, z')) in
+      (ap (λ (x : Table). place_answer x.place) r.0, r.0, r.1, λ i. omega (arith, z, z'))
   does_agree t v v' s (Does.reads b p j e) (Does.declines c n j') z z' = absurd (not_both j' j)
   does_agree t v v' s (Does.reads b p j e) (Does.reads b' p' j' e') z z' =
-      (ap (λ (x : Place). Answer.wrote (length (result x)) (result x ++ drop (length (result x)) b)) (sym e ∙ e'), refl, s)
+      (ap (λ (x : Place). Answer.wrote (length (result x)) (result x ++ drop (length (result x)) b)) (sym e ∙ e'), refl, s, λ i. refl)
 
 pub stores_agree : (m : Meaning) (t : Table) (v v' : View) (c : Call) (a a' : Answer) (u u' : Table) (w w' : View) → SameKeys v v'
-    → Does any m t v c a u w → Does any m t v' c a' u' w' → u.lost ≤ t.lost → u'.lost ≤ t.lost → (a ≡ a') × (u ≡ u') × SameKeys w w'
+    → (D : Does any m t v c a u w) (D' : Does any m t v' c a' u' w') → lost_after D 0 ≡ 0 → lost_after D' 0 ≡ 0
+    → (a ≡ a') × (u ≡ u') × SameKeys w w' × ((n : ℕ) → lost_after D n ≡ lost_after D' n)
 stores_agree m t v v' c a a' u u' w w' s d d' z z' = does_agree m t v v' s d d' z z'

@@ -5,7 +5,7 @@ use Rattle.stores.specs.Keys.{key}
 use Rattle.stores.specs.Stores.{member, View}
 use Rattle.stores.specs.Behaviours.{Behaviour}
 use Rattle.search.specs.Search.{Level, Place, BacksUp, Opens, Steps}
-use Rattle.search.specs.Calls.{Table, Call, Answer, Does}
+use Rattle.search.specs.Calls.{Table, Call, Answer, Does, lost_after}
 
 -- what a call can come to over this store
 pub record CallOutcome (b : Behaviour) (m : Meaning) (t : Table) (s : b.State) (c : Call) : Type 0 where
@@ -13,6 +13,17 @@ pub record CallOutcome (b : Behaviour) (m : Meaning) (t : Table) (s : b.State) (
   pub table : Table
   pub state : b.State
   pub does : Does b m t s c answer table state
+
+-- no key is lost in this call
+abbrev pub LosesNone : {b : Behaviour} {m : Meaning} {t : Table} {s : b.State} {c : Call}
+    {a : Answer} {u : Table} {r : b.State} → Does b m t s c a u r → Type 0
+LosesNone D = lost_after D 0 ≡ 0
+
+-- where two stores had lost as many keys before these calls, they have lost as many after them
+abbrev pub SameLost : {b b' : Behaviour} {m m' : Meaning} {t t' : Table} {s : b.State} {s' : b'.State}
+    {c c' : Call} {a a' : Answer} {u u' : Table} {r : b.State} {r' : b'.State}
+    → Does b m t s c a u r → Does b' m' t' s' c' a' u' r' → Type 0
+SameLost D D' = (n : ℕ) → lost_after D n ≡ lost_after D' n
 
 -- ---- the keys that go to the store
 

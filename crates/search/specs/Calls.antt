@@ -16,12 +16,10 @@ pub record Table : Type 0 where
   pub place : Place
   pub opened : ℕ
   pub exhausted : ℕ
-  -- keys lost since the store was emptied: told by the store's answers, and held nowhere
-  pub lost : ℕ
 
 -- a table whose search has not begun
 abbrev pub begun : List ℕ → List RowData → Table
-begun voices rows = record { voices = voices; rows = rows; place = Place.fresh; opened = 0; exhausted = 0; lost = 0 }
+begun voices rows = record { voices = voices; rows = rows; place = Place.fresh; opened = 0; exhausted = 0 }
 
 -- a table with no voices and no rows
 abbrev pub empty : Table
@@ -117,19 +115,32 @@ judged m t c = judge (reasons m t c)
 
 -- ---- Solve
 
--- so many nodes, one after the other, none of them after the search is over; over a store with the behaviour b, from one state to another
-pub data OpensNodes (b : Behaviour) (m : Meaning) : ℕ → Table → b.State → Table → b.State → Type 0 where
-  stay : (t : Table) (s : b.State) → OpensNodes b m zero t s t s
-  more : (i : ℕ) (t u : Table) (s r x : b.State) (p : Place) (n k : ℕ)
-      → Steps b m t.voices t.rows t.place s p r n k
-      → OpensNodes b m i (record { voices = t.voices; rows = t.rows; place = p; opened = t.opened + 1; exhausted = t.exhausted + n; lost = t.lost + k }) r u x
-      → OpensNodes b m (suc i) t s u x
+-- the table after one node more: where the search then stands, and how many levels were exhausted
+abbrev pub node_more : Table → Place → ℕ → Table
+node_more t p n = record {
+  voices = t.voices;
+  rows = t.rows;
+  place = p;
+  opened = t.opened + 1;
+  exhausted = t.exhausted + n;
+}
 
--- a Solve with a budget: at most so many nodes, and fewer only if the search is over
-pub record Solved (b : Behaviour) (m : Meaning) (budget : ℕ) (t : Table) (s : b.State) (u : Table) (r : b.State) : Type 0 where
+-- So many nodes, one after the other, none of them after the search is over; over a store with
+-- the behaviour b, from one state to another. The last number is how many keys the store lost.
+pub data OpensNodes (b : Behaviour) (m : Meaning) : ℕ → Table → b.State → Table → b.State → ℕ → Type 0 where
+  stay : (t : Table) (s : b.State) → OpensNodes b m zero t s t s 0
+  more : (i : ℕ) (t u : Table) (s r x : b.State) (p : Place) (n k lost : ℕ)
+      → Steps b m t.voices t.rows t.place s p r n k
+      → OpensNodes b m i (node_more t p n) r u x lost
+      → OpensNodes b m (suc i) t s u x (k + lost)
+
+-- a Solve with a budget: at most so many nodes, and fewer only if the search is over; the store
+-- loses so many keys
+pub record Solved (b : Behaviour) (m : Meaning) (budget : ℕ) (t : Table) (s : b.State)
+    (u : Table) (r : b.State) (lost : ℕ) : Type 0 where
   pub count : ℕ
   pub inside : count ≤ budget
-  pub goes : OpensNodes b m count t s u r
+  pub goes : OpensNodes b m count t s u r lost
   pub ends : (over u.place ≡ true) ⊎ (count ≡ budget)
 
 -- what Solve answers when the search then stands here
@@ -150,7 +161,19 @@ pub data Does (b : Behaviour) (m : Meaning) (t : Table) (s : b.State) : Call →
   posts : (bs : List ℕ) (r : b.State) → judged m t (post bs) ≡ passes → b.empties s r → Does b m t s (post bs) done (begun t.voices (t.rows ++ (decode m bs ∷ []))) r
   wipes : (r : b.State) → b.empties s r → Does b m t s wipe done empty r
   -- Solve goes on from where the last one stopped
-  solves : (budget : ℕ) (u : Table) (r : b.State) → judged m t (solve budget) ≡ passes → Solved b m budget t s u r → Does b m t s (solve budget) (place_answer u.place) u r
+  solves : (budget : ℕ) (u : Table) (r : b.State) (lost : ℕ) → judged m t (solve budget) ≡ passes
+      → Solved b m budget t s u r lost → Does b m t s (solve budget) (place_answer u.place) u r
   -- the values at the front of the buffer, and the bytes beyond as they were
   reads : (buffer p : List ℕ) → judged m t (read buffer) ≡ passes → t.place ≡ Place.found p
       → Does b m t s (read buffer) (wrote (length p) (p ++ drop (length p) buffer)) t s
+
+-- How many keys the store has lost since it was emptied, where it had lost n before this call. No
+-- table keeps this count: the store's answers say it.
+abbrev pub lost_after : {b : Behaviour} {m : Meaning} {t : Table} {s : b.State} {c : Call}
+    {a : Answer} {u : Table} {r : b.State} → Does b m t s c a u r → ℕ → ℕ
+lost_after (Does.declines c k j) n = n
+lost_after (Does.declares set r j e) n = 0
+lost_after (Does.posts bs r j e) n = 0
+lost_after (Does.wipes r e) n = 0
+lost_after (Does.solves budget u r lost j S) n = n + lost
+lost_after (Does.reads buffer p j e) n = n

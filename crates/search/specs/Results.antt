@@ -51,13 +51,14 @@ pub record Projects (m : Meaning) (rows : List RowData) (s t : List ℕ) : Type 
 
 -- ---- a table and its store
 
--- what a table and its store say, whatever the calls were
-pub record Invariant (m : Meaning) (t : Table) (v : View) : Type 0 where
+-- what a table and its store say, whatever the calls were, where the store has lost so many keys
+-- since it was emptied
+pub record Invariant (m : Meaning) (lost : ℕ) (t : Table) (v : View) : Type 0 where
   -- what a finished search has found is the least lawful placing; where it has found none, there is none
   pub found_least : (p : List ℕ) → t.place ≡ Place.found p → Least m t.voices t.rows p
   pub none_lawful : t.place ≡ Place.none → Lawless m t.voices t.rows
   -- a store that has lost no key holds as many as nodes were exhausted
-  pub all_kept : t.lost ≡ 0 → length v.held ≡ t.exhausted
+  pub all_kept : lost ≡ 0 → length v.held ≡ t.exhausted
   -- no key is told twice
   pub distinct : distinct_keys v.held ≡ true
   -- no node has more than 64 children

@@ -1,5 +1,5 @@
 -- What is proved of the search and of the calls, over every bank and every store.
-use Rattle.std.specs.Prelude.{◌≡◌, ℕ, ◌<◌, ◌≤◌, true, false, ◌↔◌, List, ◌∷◌, ◌++◌, length}
+use Rattle.std.specs.Prelude.{◌≡◌, ℕ, ◌<◌, true, false, ◌↔◌, List, ◌∷◌, ◌++◌, length}
 use Rattle.sets.specs.Placings.{some_empty, all_fixed, values, Proper}
 use Rattle.rows.specs.Rows.{RowData, Meaning}
 use Rattle.rows.specs.Laws.{Laws}
@@ -10,10 +10,10 @@ use Rattle.search.specs.Search.{Place, Level, Steps}
 use Rattle.rows.specs.Placed.{AllAccepted, Lawful, SameLeast}
 use Rattle.search.specs.Calls.{Table, Call, Answer, Judgement, reasons, judged, over, OpensNodes, Does}
 use Rattle.search.specs.Calls.Call.{solve, read}
-use Rattle.search.specs.Histories.{History, calls_in, declared_voices, posted_rows}
+use Rattle.search.specs.Histories.{History, keys_lost, calls_in, declared_voices, posted_rows}
 use Rattle.search.specs.Results.{Propagates, Projects, Invariant, Limited, SolveMeans, finished, Reads, Budgeted, reason_fits}
 use Rattle.search.specs.Branching.{TableLowest, Rising}
-use Rattle.search.specs.CallOutcomes.{CallOutcome, SameKeys, StepsNew}
+use Rattle.search.specs.CallOutcomes.{CallOutcome, LosesNone, SameLost, SameKeys, StepsNew}
 
 -- ---- propagation and keys
 
@@ -37,22 +37,25 @@ KeysProject = (m : Meaning) → Laws m → (rows : List RowData) (s t : List ℕ
 
 -- What stands after every history: a found result is the least lawful placing, none says that there is none, keys and nodes are counted right.
 abbrev pub InvariantHolds : Behaviour → Type 0
-InvariantHolds b = (m : Meaning) → Laws m → (g : b.State) (h : List (Call × Answer)) (t : Table) (s : b.State) → History b m g h t s → Invariant m t (b.view s)
+InvariantHolds b = (m : Meaning) → Laws m → (g : b.State) (h : List (Call × Answer)) (t : Table)
+    (s : b.State) (H : History b m g h t s) → Invariant m (keys_lost H) t (b.view s)
 
 -- After every history, and after each node that a Solve then opens: levels and nodes branch on the lowest voice that is not fixed.
 abbrev pub BranchesLowest : Behaviour → Type 0
 BranchesLowest b = (m : Meaning) → Laws m → (g : b.State) (h : List (Call × Answer)) (t : Table) (s : b.State) → History b m g h t s
-    → (n : ℕ) (u : Table) (r : b.State) → OpensNodes b m n t s u r → TableLowest m u (b.view r)
+    → (n lost : ℕ) (u : Table) (r : b.State) → OpensNodes b m n t s u r lost
+    → TableLowest m u (b.view r)
 
 -- So much is known of the levels with no law of the bank: the voices ascend strictly, and each is one of its node's.
 abbrev pub LevelsRise : Behaviour → Type 0
 LevelsRise b = (m : Meaning) (g : b.State) (h : List (Call × Answer)) (t : Table) (s : b.State) → History b m g h t s
-    → (n : ℕ) (u : Table) (r : b.State) → OpensNodes b m n t s u r → (l : Level) (ls : List Level) → u.place ≡ Place.going l ls → Rising (l ∷ ls)
+    → (n lost : ℕ) (u : Table) (r : b.State) → OpensNodes b m n t s u r lost
+    → (l : Level) (ls : List Level) → u.place ≡ Place.going l ls → Rising (l ∷ ls)
 
 -- A key that goes to the store when a node is exhausted is not held already, at every node that a Solve opens after any history.
 abbrev pub NeverTwice : Behaviour → Type 0
 NeverTwice b = (m : Meaning) → Laws m → (g : b.State) (h : List (Call × Answer)) (t : Table) (s : b.State) → History b m g h t s
-    → (n : ℕ) (u : Table) (r : b.State) → OpensNodes b m n t s u r
+    → (n lost : ℕ) (u : Table) (r : b.State) → OpensNodes b m n t s u r lost
     → (p : Place) (x : b.State) (i k : ℕ) (S : Steps b m u.voices u.rows u.place r p x i k) → StepsNew S
 
 -- ---- answers
@@ -96,20 +99,28 @@ LimitsHold b = (m : Meaning) (g : b.State) (h : List (Call × Answer)) (t : Tabl
 
 -- ---- stores
 
--- Over a store of which nothing is open, every call comes to something, and to one thing only.
+-- Over a store of which nothing is open, every call comes to something, and to one thing only: one
+-- answer, one table, one state of the store, and one number of keys lost.
 abbrev pub OneOutcome : Behaviour → Type 0
 OneOutcome b = (m : Meaning) (t : Table) (s : b.State) (c : Call)
-    → CallOutcome b m t s c × ((x y : CallOutcome b m t s c) → (x.answer ≡ y.answer) × (x.table ≡ y.table) × (x.state ≡ y.state))
+    → CallOutcome b m t s c
+    × ((x y : CallOutcome b m t s c)
+    → (x.answer ≡ y.answer) × (x.table ≡ y.table) × (x.state ≡ y.state) × SameLost x.does y.does)
 
--- So any two histories with the same calls, over such a store in the same state, have the same answers and lead to the same table, counts and all, and the same
--- state of the store.
+-- So any two histories with the same calls, over such a store in the same state, have the same
+-- answers and lead to the same table, counts and all, and the same state of the store, which has
+-- lost as many keys in the one as in the other.
 abbrev pub OneHistory : Behaviour → Type 0
-OneHistory b = (m : Meaning) (g : b.State) (h h' : List (Call × Answer)) (t t' : Table) (s s' : b.State) → History b m g h t s → History b m g h' t' s'
-    → calls_in h ≡ calls_in h' → (h ≡ h') × (t ≡ t') × (s ≡ s')
+OneHistory b = (m : Meaning) (g : b.State) (h h' : List (Call × Answer)) (t t' : Table)
+    (s s' : b.State) (H : History b m g h t s) (H' : History b m g h' t' s')
+    → calls_in h ≡ calls_in h' → (h ≡ h') × (t ≡ t') × (s ≡ s') × (keys_lost H ≡ keys_lost H')
 
--- Over any two stores that hold the same keys and lose none in this call, a call has the same answer and leaves the same table, counts and all, and the
--- same keys. (A call other than Solve loses none.)
+-- Over any two stores that hold the same keys and lose none in this call, a call has the same
+-- answer and leaves the same table, counts and all, and the same keys; and where both stores had
+-- lost as many keys before it, they have lost as many after it. (A call other than Solve loses none.)
 abbrev pub StoresAgree : Behaviour → Behaviour → Type 0
-StoresAgree b b' = (m : Meaning) (t : Table) (s : b.State) (s' : b'.State) (c : Call) (a a' : Answer) (u u' : Table) (r : b.State) (r' : b'.State)
-    → SameKeys (b.view s) (b'.view s') → Does b m t s c a u r → Does b' m t s' c a' u' r' → u.lost ≤ t.lost → u'.lost ≤ t.lost
-    → (a ≡ a') × (u ≡ u') × SameKeys (b.view r) (b'.view r')
+StoresAgree b b' = (m : Meaning) (t : Table) (s : b.State) (s' : b'.State) (c : Call)
+    (a a' : Answer) (u u' : Table) (r : b.State) (r' : b'.State)
+    → SameKeys (b.view s) (b'.view s')
+    → (D : Does b m t s c a u r) (D' : Does b' m t s' c a' u' r') → LosesNone D → LosesNone D'
+    → (a ≡ a') × (u ≡ u') × SameKeys (b.view r) (b'.view r') × SameLost D D'
