@@ -24,7 +24,7 @@ use Rattle.table.specs.Places.{place_of}
 use Rattle.table.specs.Searches.{place, table_of, Begun, outcome_of, Runs}
 use Rattle.table.specs.declared.refusal.Refusal.{Refusal}
 use Rattle.table.specs.Shown.{outcome_answer}
-use Rattle.table.specs.CallLaws.{Done, AnswerMeans, ReadMeans, ExtendsHistories}
+use Rattle.table.specs.CallLaws.{AnswerMeans, ReadMeans, ExtendsHistories}
 
 -- ---- what lasts
 
@@ -44,19 +44,18 @@ module _ (st : Behaviour) (m : Meaning) (L : Laws m) where
   means g h (read buffer) a t v H = read_means g h buffer a t v H
   means g h wipe a t v H = tt
 
-  pub extends_by : (t : ℕ → Table) (v : st.State) (c : Call) (a : Answer) (u : ℕ → Table) (w : st.State) → Formed c → Done st m t v c a u w → ExtendsHistories st m t v c a u w
+  pub extends_by : (t : Table) (v : st.State) (c : Call) (a : Answer) (u : Table) (w : st.State) → Formed c → Does st m t v c a u w → ExtendsHistories st m t v c a u w
   extends_by t v c a u w f d = record {
-    lost = d.lost;
-    history = λ g h j H. History.then h (t j) (u (d.lost j)) v w c a H f (d.does j);
-    invariant = λ g h j H. invariant_holds st m L g ((c, a) ∷ h) (u (d.lost j)) w (History.then h (t j) (u (d.lost j)) v w c a H f (d.does j));
-    means = λ g h j H. means g h c a (u (d.lost j)) w (History.then h (t j) (u (d.lost j)) v w c a H f (d.does j));
+    history = λ g h H. History.then h t u v w c a H f d;
+    invariant = λ g h H. invariant_holds st m L g ((c, a) ∷ h) u w (History.then h t u v w c a H f d);
+    means = λ g h H. means g h c a u w (History.then h t u v w c a H f d);
   }
 
 -- ---- a search that has not begun
 
-pub begun_table : (voices : List ℕ) (rows : List RowData) (n : ℕ) (s : Search) → Begun n s → table_of voices rows s 0 ≡ begun voices rows
+pub begun_table : (voices : List ℕ) (rows : List RowData) (n : ℕ) (s : Search) → Begun n s → table_of voices rows s ≡ begun voices rows
 begun_table voices rows n s b =
-    let at : List Level → End → ℕ → ℕ → Table = λ ls e o x. record { voices = voices; rows = rows; place = place_of e (vec_items s.sets) ls; opened = o; exhausted = x; lost = 0 } in
+    let at : List Level → End → ℕ → ℕ → Table = λ ls e o x. record { voices = voices; rows = rows; place = place_of e (vec_items s.sets) ls; opened = o; exhausted = x } in
     ap (λ (ls : List Level). at ls s.end s.opened s.exhausted) b.level_none
     ∙ ap (λ (e : End). at [] e s.opened s.exhausted) b.fresh_end
     ∙ ap (λ (o : ℕ). at [] Fresh o s.exhausted) b.none_opened
@@ -64,8 +63,8 @@ begun_table voices rows n s b =
 
 -- ---- what the calls do
 
-pub declines_by : (st : Behaviour) (m : Meaning) (t : ℕ → Table) (v : st.State) (c : Call) (n : ℕ) → ((j : ℕ) → judged m (t j) c ≡ Judgement.declined n) → Done st m t v c (Answer.refused n) t v
-declines_by st m t v c n e = record { lost = λ j. j; does = λ j. Does.declines c n (e j) }
+pub declines_by : (st : Behaviour) (m : Meaning) (t : Table) (v : st.State) (c : Call) (n : ℕ) → judged m t c ≡ Judgement.declined n → Does st m t v c (Answer.refused n) t v
+declines_by st m t v c n e = Does.declines c n e
 
 -- what holds anyway holds where a call is declined
 pub on_err : {P : Type 0} (r : Result (Unit {0}) Refusal) → P → OnErr r P
@@ -74,35 +73,35 @@ on_err (Err refusal) p = p
 
 -- declined, with a row written beyond the table's own
 pub declines_kept : (st : Behaviour) (m : Meaning) (voices : List ℕ) (rows rows' : List RowData) (s : Search) (v : st.State) (c : Call) (n : ℕ) (a : Answer) → rows' ≡ rows → a ≡ Answer.refused n
-    → ((j : ℕ) → judged m (table_of voices rows s j) c ≡ Judgement.declined n) → Done st m (table_of voices rows s) v c a (table_of voices rows' s) v
+    → judged m (table_of voices rows s) c ≡ Judgement.declined n → Does st m (table_of voices rows s) v c a (table_of voices rows' s) v
 declines_kept st m voices rows rows' s v c n a e f g =
-    subst (λ (x : List RowData). Done st m (table_of voices rows s) v c a (table_of voices x s) v) (sym e)
-    (subst (λ (x : Answer). Done st m (table_of voices rows s) v c x (table_of voices rows s) v) (sym f) (declines_by st m (table_of voices rows s) v c n g))
+    subst (λ (x : List RowData). Does st m (table_of voices rows s) v c a (table_of voices x s) v) (sym e)
+    (subst (λ (x : Answer). Does st m (table_of voices rows s) v c x (table_of voices rows s) v) (sym f) (declines_by st m (table_of voices rows s) v c n g))
 
 pub declares_by : (st : Behaviour) (m : Meaning) (voices voices' : List ℕ) (rows : List RowData) (s s' : Search) (v w : st.State) (x n : ℕ) → voices' ≡ voices ++ (x ∷ []) → Begun n s'
-    → ((j : ℕ) → judged m (table_of voices rows s j) (declare x) ≡ Judgement.passes) → st.empties v w
-    → Done st m (table_of voices rows s) v (declare x) Answer.done (table_of voices' rows s') w
+    → judged m (table_of voices rows s) (declare x) ≡ Judgement.passes → st.empties v w
+    → Does st m (table_of voices rows s) v (declare x) Answer.done (table_of voices' rows s') w
 declares_by st m voices voices' rows s s' v w x n e b f h =
-    let to : table_of voices' rows s' 0 ≡ begun (voices ++ (x ∷ [])) rows = begun_table voices' rows n s' b ∙ ap (λ (y : List ℕ). begun y rows) e in
-    record { lost = λ j. 0; does = λ j. subst (λ (y : Table). Does st m (table_of voices rows s j) v (declare x) Answer.done y w) (sym to) (Does.declares x w (f j) h) }
+    let to : table_of voices' rows s' ≡ begun (voices ++ (x ∷ [])) rows = begun_table voices' rows n s' b ∙ ap (λ (y : List ℕ). begun y rows) e in
+    subst (λ (y : Table). Does st m (table_of voices rows s) v (declare x) Answer.done y w) (sym to) (Does.declares x w f h)
 
 pub posts_by : (st : Behaviour) (m : Meaning) (voices : List ℕ) (rows rows' : List RowData) (s s' : Search) (v w : st.State) (bs : List ℕ) (n : ℕ) → rows' ≡ rows ++ (decode m bs ∷ []) → Begun n s'
-    → ((j : ℕ) → judged m (table_of voices rows s j) (post bs) ≡ Judgement.passes) → st.empties v w
-    → Done st m (table_of voices rows s) v (post bs) Answer.done (table_of voices rows' s') w
+    → judged m (table_of voices rows s) (post bs) ≡ Judgement.passes → st.empties v w
+    → Does st m (table_of voices rows s) v (post bs) Answer.done (table_of voices rows' s') w
 posts_by st m voices rows rows' s s' v w bs n e b f h =
-    let to : table_of voices rows' s' 0 ≡ begun voices (rows ++ (decode m bs ∷ [])) = begun_table voices rows' n s' b ∙ ap (λ (y : List RowData). begun voices y) e in
-    record { lost = λ j. 0; does = λ j. subst (λ (y : Table). Does st m (table_of voices rows s j) v (post bs) Answer.done y w) (sym to) (Does.posts bs w (f j) h) }
+    let to : table_of voices rows' s' ≡ begun voices (rows ++ (decode m bs ∷ [])) = begun_table voices rows' n s' b ∙ ap (λ (y : List RowData). begun voices y) e in
+    subst (λ (y : Table). Does st m (table_of voices rows s) v (post bs) Answer.done y w) (sym to) (Does.posts bs w f h)
 
-pub wipes_by : (st : Behaviour) (m : Meaning) (t : ℕ → Table) (voices : List ℕ) (s : Search) (v w : st.State) (n : ℕ) → voices ≡ [] → Begun n s → st.empties v w
-    → Done st m t v wipe Answer.done (table_of voices [] s) w
+pub wipes_by : (st : Behaviour) (m : Meaning) (t : Table) (voices : List ℕ) (s : Search) (v w : st.State) (n : ℕ) → voices ≡ [] → Begun n s → st.empties v w
+    → Does st m t v wipe Answer.done (table_of voices [] s) w
 wipes_by st m t voices s v w n e b h =
-    let to : table_of voices [] s 0 ≡ begun [] [] = begun_table voices [] n s b ∙ ap (λ (y : List ℕ). begun y []) e in
-    record { lost = λ j. 0; does = λ j. subst (λ (y : Table). Does st m (t j) v wipe Answer.done y w) (sym to) (Does.wipes w h) }
+    let to : table_of voices [] s ≡ begun [] [] = begun_table voices [] n s b ∙ ap (λ (y : List ℕ). begun y []) e in
+    subst (λ (y : Table). Does st m t v wipe Answer.done y w) (sym to) (Does.wipes w h)
 
 pub made_by : (st : Behaviour) (m : Meaning) (voices : List ℕ) (s : Search) (g w : st.State) (n : ℕ) → voices ≡ [] → Begun n s → st.empties g w
-    → History st m g [] (table_of voices [] s 0) w
+    → History st m g [] (table_of voices [] s) w
 made_by st m voices s g w n e b h =
-    let to : table_of voices [] s 0 ≡ begun [] [] = begun_table voices [] n s b ∙ ap (λ (y : List ℕ). begun y []) e in
+    let to : table_of voices [] s ≡ begun [] [] = begun_table voices [] n s b ∙ ap (λ (y : List ℕ). begun y []) e in
     subst (λ (y : Table). History st m g [] y w) (sym to) (History.made w h)
 
 outcome_says : (p : Place) → outcome_answer (outcome_of p) (result p) ≡ place_answer p
@@ -112,23 +111,19 @@ outcome_says (found p) = refl
 outcome_says none = refl
 
 pub solves_by : (st : Behaviour) (m : Meaning) (voices : List ℕ) (rows : List RowData) (s s' : Search) (v w : st.State) (b : ℕ) (o : Outcome) → o ≡ outcome_of (place s')
-    → ((j : ℕ) → judged m (table_of voices rows s j) (solve b) ≡ Judgement.passes) → Runs st m b (table_of voices rows s) v (table_of voices rows s') w
-    → Done st m (table_of voices rows s) v (solve b) (outcome_answer o (result (place s'))) (table_of voices rows s') w
+    → judged m (table_of voices rows s) (solve b) ≡ Judgement.passes → Runs st m b (table_of voices rows s) v (table_of voices rows s') w
+    → Does st m (table_of voices rows s) v (solve b) (outcome_answer o (result (place s'))) (table_of voices rows s') w
 solves_by st m voices rows s s' v w b o e f r =
     let a : outcome_answer o (result (place s')) ≡ place_answer (place s') = ap (λ (x : Outcome). outcome_answer x (result (place s'))) e ∙ outcome_says (place s') in
-    record {
-      lost = λ j. j + r.lost;
-      does = λ j. subst (λ (x : Answer). Does st m (table_of voices rows s j) v (solve b) x (table_of voices rows s' (j + r.lost)) w) (sym a)
-          (Does.solves b (table_of voices rows s' (j + r.lost)) w (f j) (r.solved j));
-    }
+    subst (λ (x : Answer). Does st m (table_of voices rows s) v (solve b) x (table_of voices rows s') w) (sym a)
+    (Does.solves b (table_of voices rows s') w r.lost f r.solved)
 
 -- no fewer nodes are opened than before, and at most as many more as the budget says
-pub opens_within : (st : Behaviour) {m : Meaning} {b : ℕ} {t : ℕ → Table} {v : st.State} {u : ℕ → Table} {w : st.State} → (r : Runs st m b t v u w)
-    → ((t 0).opened ≤ (u (0 + r.lost)).opened) × ((u (0 + r.lost)).opened ≤ (t 0).opened + b)
+pub opens_within : (st : Behaviour) {m : Meaning} {b : ℕ} {t : Table} {v : st.State} {u : Table} {w : st.State} → Runs st m b t v u w
+    → (t.opened ≤ u.opened) × (u.opened ≤ t.opened + b)
 opens_within st {m} r =
-    let s = r.solved 0 in
-    let k = goes_kept (goes_any st m s.goes) in
-    (omega (arith, k.opened), omega (arith, k.opened, s.inside))
+    let k = goes_kept (goes_any st m r.solved.goes) in
+    (omega (arith, k.opened), omega (arith, k.opened, r.solved.inside))
 
 -- ---- what was found
 
@@ -157,16 +152,13 @@ found_place Found w (l ∷ ls) h = cc
 found_place Exhausted w (l ∷ ls) h = cc
 
 pub reads_by : (st : Behaviour) (m : Meaning) (voices : List ℕ) (rows : List RowData) (s : Search) (v : st.State) (sets buffer after : List ℕ) → place s ≡ found (values sets)
-    → after ≡ values sets ++ drop (length sets) buffer → ((j : ℕ) → judged m (table_of voices rows s j) (read buffer) ≡ Judgement.passes)
-    → Done st m (table_of voices rows s) v (read buffer) (Answer.wrote (length sets) after) (table_of voices rows s) v
+    → after ≡ values sets ++ drop (length sets) buffer → judged m (table_of voices rows s) (read buffer) ≡ Judgement.passes
+    → Does st m (table_of voices rows s) v (read buffer) (Answer.wrote (length sets) after) (table_of voices rows s) v
 reads_by st m voices rows s v sets buffer after e f g =
     let n : length (values sets) ≡ length sets = length-map sets least in
     let a : Answer.wrote (length (values sets)) (values sets ++ drop (length (values sets)) buffer) ≡ Answer.wrote (length sets) after =
     ap (λ (k : ℕ). Answer.wrote k (values sets ++ drop k buffer)) n ∙ ap (λ (y : List ℕ). Answer.wrote (length sets) y) (sym f) in
-    record {
-      lost = λ j. j;
-      does = λ j. subst (λ (x : Answer). Does st m (table_of voices rows s j) v (read buffer) x (table_of voices rows s j) v) a (Does.reads buffer (values sets) (g j) e);
-    }
+    subst (λ (x : Answer). Does st m (table_of voices rows s) v (read buffer) x (table_of voices rows s) v) a (Does.reads buffer (values sets) g e)
 
 -- ---- from slices to fields
 

@@ -1,5 +1,5 @@
 -- One node, and runs of nodes one after the other.
-use Rattle.std.proofs.Common.{◌≡◌, ℕ, ◌+◌, ◌≤◌, true, false, ◌⊎◌, List, [], ◌∷◌, sym, subst, arith}
+use Rattle.std.proofs.Common.{◌≡◌, ℕ, ◌+◌, ◌≤◌, true, false, ◌⊎◌, List, [], ◌∷◌, refl, sym, subst, arith}
 use Rattle.rows.specs.Rows.{RowData, Meaning}
 use Rattle.stores.specs.Behaviours.{Behaviour}
 use Rattle.search.specs.Search.{Level, Place, Opens, Steps, taken}
@@ -30,43 +30,37 @@ module _ (st : Behaviour) where
 
   -- ---- runs
 
-  abbrev table : List ℕ → List RowData → Place → ℕ → ℕ → ℕ → Table
-  table voices rows p o e lost = record { voices = voices; rows = rows; place = p; opened = o; exhausted = e; lost = lost }
+  abbrev pub table : List ℕ → List RowData → Place → ℕ → ℕ → Table
+  table voices rows p o e = record { voices = voices; rows = rows; place = p; opened = o; exhausted = e }
 
   pub ran_one : (m : Meaning) (voices : List ℕ) (rows : List RowData) (p q : Place) (o e o' e' : ℕ) (v w : st.State) (n : ℕ) → o' ≡ o + 1 → e' ≡ e + n → Advanced st m voices rows p v q w n
-      → Ran st m 1 (λ j. record { voices = voices; rows = rows; place = p; opened = o; exhausted = e; lost = j }) v
-      (λ j. record { voices = voices; rows = rows; place = q; opened = o'; exhausted = e'; lost = j }) w
+      → Ran st m 1 (table voices rows p o e) v (table voices rows q o' e') w
   ran_one m voices rows p q o e o' e' v w n c d a =
-      subst (λ (x : ℕ). Ran st m 1 (λ j. table voices rows p o e j) v (λ j. table voices rows q x e' j) w) (sym c)
-      (subst (λ (x : ℕ). Ran st m 1 (λ j. table voices rows p o e j) v (λ j. table voices rows q (o + 1) x j) w) (sym d)
+      subst (λ (x : ℕ). Ran st m 1 (table voices rows p o e) v (table voices rows q x e') w) (sym c)
+      (subst (λ (x : ℕ). Ran st m 1 (table voices rows p o e) v (table voices rows q (o + 1) x) w) (sym d)
       (record {
-        lost = a.lost;
-        goes = λ j. OpensNodes.more 0 (table voices rows p o e j) (table voices rows q (o + 1) (e + n) (j + a.lost)) v w w q n a.lost a.steps
-            (OpensNodes.stay (table voices rows q (o + 1) (e + n) (j + a.lost)) w);
+        lost = a.lost + 0;
+        goes = OpensNodes.more 0 (table voices rows p o e) (table voices rows q (o + 1) (e + n)) v w w q n a.lost 0 a.steps
+            (OpensNodes.stay (table voices rows q (o + 1) (e + n)) w);
       }))
 
-  recount : {m : Meaning} {b c : ℕ} {t : Table} {v : st.State} {u : Table} {w : st.State} → b ≡ c → OpensNodes st m b t v u w → OpensNodes st m c t v u w
-  recount {m} {b} {c} {t} {v} {u} {w} e g = subst (λ (n : ℕ). OpensNodes st m n t v u w) e g
+  recount : {m : Meaning} {b c : ℕ} {t : Table} {v : st.State} {u : Table} {w : st.State} {i j : ℕ} → b ≡ c → i ≡ j → OpensNodes st m b t v u w i
+      → OpensNodes st m c t v u w j
+  recount {m} {b} {c} {t} {v} {u} {w} {i} {j} e f g = subst (λ (k : ℕ). OpensNodes st m c t v u w k) f (subst (λ (n : ℕ). OpensNodes st m n t v u w i) e g)
 
-  goes_then : {m : Meaning} {b c : ℕ} {t : Table} {v : st.State} {u : Table} {w : st.State} {x : Table} {y : st.State} → OpensNodes st m b t v u w → OpensNodes st m c u w x y → OpensNodes st m (b + c) t v x y
-  goes_then (OpensNodes.stay t v) h = recount (omega arith) h
-  goes_then {c = c} {x = x} {y = y} (OpensNodes.more b t u v w z p n k S G) h = recount (omega arith) (OpensNodes.more (b + c) t x v w y p n k S (goes_then G h))
+  goes_then : {m : Meaning} {b c : ℕ} {t : Table} {v : st.State} {u : Table} {w : st.State} {x : Table} {y : st.State} {i j : ℕ} → OpensNodes st m b t v u w i
+      → OpensNodes st m c u w x y j → OpensNodes st m (b + c) t v x y (i + j)
+  goes_then (OpensNodes.stay t v) h = recount (omega arith) (omega arith) h
+  goes_then {c = c} {x = x} {y = y} {j = j} (OpensNodes.more b t u v w z p n k i S G) h =
+      recount (omega arith) (omega arith) (OpensNodes.more (b + c) t x v w y p n k (i + j) S (goes_then G h))
 
-  pub ran_none : (m : Meaning) (t : ℕ → Table) (v : st.State) (n : ℕ) → n ≡ 0 → Ran st m n t v t v
-  ran_none m t v n e = record {
-    lost = 0;
-    goes = λ j. recount (sym e) (subst (λ (i : ℕ). OpensNodes st m 0 (t j) v (t i) v) (omega arith) (OpensNodes.stay (t j) v));
-  }
+  pub ran_none : (m : Meaning) (t : Table) (v : st.State) (n : ℕ) → n ≡ 0 → Ran st m n t v t v
+  ran_none m t v n e = record { lost = 0; goes = recount (sym e) refl (OpensNodes.stay t v) }
 
-  pub ran_then : (m : Meaning) (b c d : ℕ) (t : ℕ → Table) (v : st.State) (u : ℕ → Table) (w : st.State) (x : ℕ → Table) (y : st.State) → d ≡ b + c
+  pub ran_then : (m : Meaning) (b c d : ℕ) (t : Table) (v : st.State) (u : Table) (w : st.State) (x : Table) (y : st.State) → d ≡ b + c
       → Ran st m b t v u w → Ran st m c u w x y → Ran st m d t v x y
-  ran_then m b c d t v u w x y e r q = record {
-    lost = r.lost + q.lost;
-    goes = λ j.
-        let k : (j + r.lost) + q.lost ≡ j + (r.lost + q.lost) = omega arith in
-        recount (sym e) (subst (λ (i : ℕ). OpensNodes st m (b + c) (t j) v (x i) y) k (goes_then (r.goes j) (q.goes (j + r.lost))));
-  }
+  ran_then m b c d t v u w x y e r q = record { lost = r.lost + q.lost; goes = recount (sym e) refl (goes_then r.goes q.goes) }
 
-  pub runs_by : (m : Meaning) (budget count : ℕ) (t : ℕ → Table) (v : st.State) (u : ℕ → Table) (w : st.State) → count ≤ budget → Ran st m count t v u w
-      → ((j : ℕ) → (over (u j).place ≡ true) ⊎ (count ≡ budget)) → Runs st m budget t v u w
-  runs_by m budget count t v u w h r e = record { lost = r.lost; solved = λ j. record { count = count; inside = h; goes = r.goes j; ends = e (j + r.lost) } }
+  pub runs_by : (m : Meaning) (budget count : ℕ) (t : Table) (v : st.State) (u : Table) (w : st.State) → count ≤ budget → Ran st m count t v u w
+      → (over u.place ≡ true) ⊎ (count ≡ budget) → Runs st m budget t v u w
+  runs_by m budget count t v u w h r e = record { lost = r.lost; solved = record { count = count; inside = h; goes = r.goes; ends = e } }

@@ -1,16 +1,11 @@
--- What a call does, and what lasts over whole histories of calls.
+-- What lasts over whole histories of calls.
 use Rattle.std.specs.Prelude.{ℕ, List, ◌∷◌}
 use Rattle.rows.specs.Rows.{Meaning}
 use Rattle.stores.specs.Behaviours.{Behaviour}
-use Rattle.search.specs.Calls.{Table, Call, Answer, Does}
+use Rattle.search.specs.Calls.{Table, Call, Answer}
 use Rattle.search.specs.Calls.Call.{declare, post, solve, read, wipe}
-use Rattle.search.specs.Histories.{History, declared_voices, posted_rows}
+use Rattle.search.specs.Histories.{History, keys_lost, declared_voices, posted_rows}
 use Rattle.search.specs.Results.{Invariant, SolveMeans, Reads}
-
--- A call takes the table t and its store's state s to the table u and the state r, however many keys were lost before; `lost` says how many are lost then.
-pub record Done (b : Behaviour) (m : Meaning) (t : ℕ → Table) (s : b.State) (c : Call) (a : Answer) (u : ℕ → Table) (r : b.State) : Type 0 where
-  pub lost : ℕ → ℕ
-  pub does : (j : ℕ) → Does b m (t j) s c a (u (lost j)) r
 
 -- what an answer of Read says of the calls before it
 abbrev pub ReadMeans : Meaning → List (Call × Answer) → List ℕ → Answer → Type 0
@@ -30,10 +25,13 @@ AnswerMeans m h (solve b) a = SolveMeans m (declared_voices h) (posted_rows m h)
 AnswerMeans m h (read buffer) a = ReadMeans m h buffer a
 AnswerMeans m h wipe a = Unit {0}
 
--- Whatever the calls were that led to the table t and the state s, from a store in whatever state g: with this call they lead to the table u and the state r; what
--- stands after every history stands then, and the answer is right.
-pub record ExtendsHistories (b : Behaviour) (m : Meaning) (t : ℕ → Table) (s : b.State) (c : Call) (a : Answer) (u : ℕ → Table) (r : b.State) : Type 0 where
-  pub lost : ℕ → ℕ
-  pub history : (g : b.State) (h : List (Call × Answer)) (j : ℕ) → History b m g h (t j) s → History b m g ((c, a) ∷ h) (u (lost j)) r
-  pub invariant : (g : b.State) (h : List (Call × Answer)) (j : ℕ) → History b m g h (t j) s → Invariant m (u (lost j)) (b.view r)
-  pub means : (g : b.State) (h : List (Call × Answer)) (j : ℕ) → History b m g h (t j) s → AnswerMeans m h c a
+-- Whatever the calls were that led to the table t and the state s, from a store in whatever state
+-- g: with this call they lead to the table u and the state r; what holds after every history holds
+-- then, and the answer is right.
+pub record ExtendsHistories (b : Behaviour) (m : Meaning) (t : Table) (s : b.State) (c : Call)
+    (a : Answer) (u : Table) (r : b.State) : Type 0 where
+  pub history : (g : b.State) (h : List (Call × Answer)) → History b m g h t s
+      → History b m g ((c, a) ∷ h) u r
+  pub invariant : (g : b.State) (h : List (Call × Answer)) (H : History b m g h t s)
+      → Invariant m (keys_lost (history g h H)) u (b.view r)
+  pub means : (g : b.State) (h : List (Call × Answer)) → History b m g h t s → AnswerMeans m h c a

@@ -1,5 +1,5 @@
 -- What the state of a search says.
-use Rattle.std.specs.Prelude.{◌≡◌, ℕ, ◌+◌, List, [], vec_items, vec_len}
+use Rattle.std.specs.Prelude.{◌≡◌, ℕ, List, [], vec_items, vec_len}
 use Rattle.rows.specs.Rows.{RowData, Meaning}
 use Rattle.stores.specs.Behaviours.{Behaviour}
 use Rattle.search.specs.Search.{Level, Place}
@@ -26,9 +26,15 @@ levels_of s = listed s.levels
 abbrev pub place : Search → Place
 place s = place_of s.end (vec_items s.sets) (levels_of s)
 
--- the table with these voices and rows that it searches, where so many keys were lost
-abbrev pub table_of : List ℕ → List RowData → Search → ℕ → Table
-table_of voices rows s lost = record { voices = voices; rows = rows; place = place s; opened = s.opened; exhausted = s.exhausted; lost = lost }
+-- the table with these voices and rows that it searches
+abbrev pub table_of : List ℕ → List RowData → Search → Table
+table_of voices rows s = record {
+  voices = voices;
+  rows = rows;
+  place = place s;
+  opened = s.opened;
+  exhausted = s.exhausted;
+}
 
 -- a search with n voices that has not begun
 pub record Begun (n : ℕ) (s : Search) : Type 0 where
@@ -45,12 +51,14 @@ outcome_of (going l ls) = Stopped
 outcome_of (found p) = Found
 outcome_of none = None
 
--- n nodes are opened, whatever was lost before
-pub record Ran (b : Behaviour) (m : Meaning) (n : ℕ) (t : ℕ → Table) (s : b.State) (u : ℕ → Table) (r : b.State) : Type 0 where
+-- n nodes are opened; the store loses some number of keys
+pub record Ran (b : Behaviour) (m : Meaning) (n : ℕ) (t : Table) (s : b.State) (u : Table)
+    (r : b.State) : Type 0 where
   pub lost : ℕ
-  pub goes : (j : ℕ) → OpensNodes b m n (t j) s (u (j + lost)) r
+  pub goes : OpensNodes b m n t s u r lost
 
--- nodes are opened with this budget, whatever was lost before
-pub record Runs (b : Behaviour) (m : Meaning) (budget : ℕ) (t : ℕ → Table) (s : b.State) (u : ℕ → Table) (r : b.State) : Type 0 where
+-- nodes are opened with this budget; the store loses some number of keys
+pub record Runs (b : Behaviour) (m : Meaning) (budget : ℕ) (t : Table) (s : b.State) (u : Table)
+    (r : b.State) : Type 0 where
   pub lost : ℕ
-  pub solved : (j : ℕ) → Solved b m budget (t j) s (u (j + lost)) r
+  pub solved : Solved b m budget t s u r lost

@@ -5,7 +5,7 @@ use Rattle.rows.specs.Rows.{RowData}
 use Rattle.rows.specs.Views.{rows_of}
 use Rattle.stores.specs.declared.store.Store as store
 use Rattle.search.specs.Calls as calls
-use Rattle.search.specs.Calls.{Call, Answer, result}
+use Rattle.search.specs.Calls.{Call, Answer, Does, result}
 use Rattle.search.specs.Histories.{History}
 use Rattle.table.specs.Searches.{place, table_of}
 use Rattle.table.specs.declared.outcome.Outcome.{Outcome}
@@ -13,16 +13,16 @@ use Rattle.table.specs.declared.outcome.Outcome.TheVariants.{Stopped, Found, Non
 use Rattle.table.specs.declared.refusal.Refusal.{Refusal}
 use Rattle.table.specs.declared.table.Table.{Table}
 use Rattle.table.specs.Refusals.{refusal_number}
-use Rattle.table.specs.CallLaws.{Done, ExtendsHistories}
+use Rattle.table.specs.CallLaws.{ExtendsHistories}
 
 module _ {B S : Type 0} {b : bank.Ghosts B} {s : store.Ghosts S} where
   -- the table's rows
   abbrev pub rows_in : Table B S b s → List RowData
   rows_in t = rows_of (take t.posted (vec_items t.rows))
 
-  -- the table as the definitions have it, where so many keys were lost: the code keeps no count of them
-  abbrev pub model : Table B S b s → ℕ → calls.Table
-  model t lost = table_of (vec_items t.voices) (rows_in t) t.search lost
+  -- the table as the definitions have it
+  abbrev pub model : Table B S b s → calls.Table
+  model t = table_of (vec_items t.voices) (rows_in t) t.search
 
   -- the state that its store is in
   abbrev pub store_in : Table B S b s → s.behaviour.State
@@ -36,7 +36,7 @@ module _ {B S : Type 0} {b : bank.Ghosts B} {s : store.Ghosts S} where
 
   -- by what the call is to do
   abbrev pub CallDone : Table B S b s → Call → Answer → Table B S b s → Type 0
-  CallDone t c a u = Done s.behaviour b.meaning (model t) (store_in t) c a (model u) (store_in u)
+  CallDone t c a u = Does s.behaviour b.meaning (model t) (store_in t) c a (model u) (store_in u)
 
   -- and by what lasts over whole histories of calls
   abbrev pub CallExtends : Table B S b s → Call → Answer → Table B S b s → Type 0
@@ -44,7 +44,7 @@ module _ {B S : Type 0} {b : bank.Ghosts B} {s : store.Ghosts S} where
 
   -- what Make gives over a store in this state: a table with which a history begins
   abbrev pub Begins : s.behaviour.State → Table B S b s → Type 0
-  Begins g t = History s.behaviour b.meaning g [] (model t 0) (store_in t)
+  Begins g t = History s.behaviour b.meaning g [] (model t) (store_in t)
 
 -- ---- answers
 

@@ -48,7 +48,7 @@ returns-in_err-accept_bytes g c =
     let a : done_answer c.from_residual.result ≡ Answer.refused (row_number_of f) =
     ap (λ (x : Result (Unit {0}) Refusal). done_answer x) p.1 ∙ ap (λ (x : Refusal). Answer.refused (refusal_number x)) p.2 in
     let d = declines_kept g.S.Store.behaviour m (vec_items t.voices) (rows_in t) rows t.search v (post bs) (row_number_of f) (done_answer c.from_residual.result)
-    (rows_kept t.rows.items t.posted c.accept_bytes.new.row) a (λ j. bytes_decline m (model t j) bs f e) in
+    (rows_kept t.rows.items t.posted c.accept_bytes.new.row) a (bytes_decline m (model t) bs f e) in
     record { does = d; history = extends_by g.S.Store.behaviour m g.met.B.Bank.lawful (model t) v (post bs) (done_answer c.from_residual.result) (table_of (vec_items t.voices) rows t.search) v b d; declined = on_err c.from_residual.result refl }
 
 pub returns-then-not-has_room : goal.returns-then-not-has_room
@@ -64,7 +64,7 @@ returns-then-not-has_room g c =
     let e : Ok c.in_ok-accept_bytes.field-0 ≡ row_verdict m bs (length (vec_items t.voices)) = c.in_ok-accept_bytes.ensures.value ∙ ap (λ (k : ℕ). row_verdict m bs k) n in
     let full = full_by (rows_in t) rows (length bs) kept c.if-not-has_room.ensures in
     let d = declines_kept g.S.Store.behaviour m (vec_items t.voices) (rows_in t) rows t.search v (post bs) 12 (Answer.refused 12) kept refl
-    (λ j. rows_full m (model t j) bs c.in_ok-accept_bytes.field-0 e full) in
+    (rows_full m (model t) bs c.in_ok-accept_bytes.field-0 e full) in
     record { does = d; history = extends_by g.S.Store.behaviour m g.met.B.Bank.lawful (model t) v (post bs) (Answer.refused 12) (table_of (vec_items t.voices) rows t.search) v b d; declined = refl }
 
 pub invariant_of-self-2 : goal.invariant_of-self-2
@@ -113,5 +113,5 @@ returns g c =
     let pushed = rows_pushed m t.rows.items t.posted r bs (row_of c.index_mut.result.now) k l c.in_ok-accept_bytes.ensures.after in
     let room = open_by (rows_in t) before (length bs) kept c.if-not-has_room.ensures in
     let d = posts_by g.S.Store.behaviour m (vec_items t.voices) (rows_in t) rows t.search s v w bs _ pushed c.restart.ensures
-    (λ j. row_fits m (model t j) bs c.in_ok-accept_bytes.field-0 e room) c.clear.ensures in
+    (row_fits m (model t) bs c.in_ok-accept_bytes.field-0 e room) c.clear.ensures in
     record { does = d; history = extends_by g.S.Store.behaviour m g.met.B.Bank.lawful (model t) v (post bs) Answer.done (table_of (vec_items t.voices) rows s) w b d; declined = tt }

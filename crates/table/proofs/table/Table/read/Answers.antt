@@ -17,7 +17,7 @@ returns-in-Stopped g c =
     let v = store_in t in
     let b = c.args.out.now in
     let f : Bytes b = λ i l. (c.type_inv.out i).fits in
-    let d = declines_by g.S.Store.behaviour m (model t) v (read b) 15 (λ j. nothing_found m (model t j) b (not_found c.outcome.result (place t.search) c.in-Stopped.is c.outcome.ensures)) in
+    let d = declines_by g.S.Store.behaviour m (model t) v (read b) 15 (nothing_found m (model t) b (not_found c.outcome.result (place t.search) c.in-Stopped.is c.outcome.ensures)) in
     record { does = d; history = extends_by g.S.Store.behaviour m g.met.B.Bank.lawful (model t) v (read b) (Answer.refused 15) (model t) v f d; buffer = refl }
 
 pub returns-then-out-sets : goal.returns-then-out-sets
@@ -30,7 +30,7 @@ returns-then-out-sets g c =
     let f : Bytes b = λ i l. (c.type_inv.out i).fits in
     let e : place s ≡ Place.found (values c.sets-sets.result.now) =
     found_place s.end (vec_items s.sets) (levels_of s) c.in-Found.ensures ∙ ap (λ (x : List ℕ). Place.found (values x)) (sym c.sets-sets.ensures) in
-    let d = declines_by g.S.Store.behaviour m (model t) v (read b) 16 (λ j. short_buffer m (model t j) c.sets-sets.result.now b e c.if-out-sets.true) in
+    let d = declines_by g.S.Store.behaviour m (model t) v (read b) 16 (short_buffer m (model t) c.sets-sets.result.now b e c.if-out-sets.true) in
     record { does = d; history = extends_by g.S.Store.behaviour m g.met.B.Bank.lawful (model t) v (read b) (Answer.refused 16) (model t) v f d; buffer = refl }
 
 pub returns : goal.returns
@@ -44,7 +44,7 @@ returns g c =
     let e : place s ≡ Place.found (values c.sets-sets.result.now) =
     found_place s.end (vec_items s.sets) (levels_of s) c.in-Found.ensures ∙ ap (λ (x : List ℕ). Place.found (values x)) (sym c.sets-sets.ensures) in
     let d = reads_by g.S.Store.behaviour m (vec_items t.voices) (rows_in t) s v c.sets-sets.result.now b c.write_values.new.out e c.write_values.ensures
-    (λ j. buffer_fits m (model t j) c.sets-sets.result.now b e c.if-out-sets.false) in
+    (buffer_fits m (model t) c.sets-sets.result.now b e c.if-out-sets.false) in
     record {
       does = d;
       history = extends_by g.S.Store.behaviour m g.met.B.Bank.lawful (model t) v (read b) (Answer.wrote (length c.sets-sets.result.now) c.write_values.new.out) (model t) v f d;

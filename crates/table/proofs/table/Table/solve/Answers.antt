@@ -15,7 +15,7 @@ returns-then-budget-eq0 g c =
     let m = g.B.Bank.meaning in
     let t = c.args.self.now in
     let v = store_in t in
-    let d = declines_by g.S.Store.behaviour m (model t) v (solve c.args.budget) 13 (λ j. budget_range m (model t j) c.args.budget c.then-budget-eq0.either) in
+    let d = declines_by g.S.Store.behaviour m (model t) v (solve c.args.budget) 13 (budget_range m (model t) c.args.budget c.then-budget-eq0.either) in
     record { does = d; history = extends_by g.S.Store.behaviour m g.met.B.Bank.lawful (model t) v (solve c.args.budget) (Answer.refused 13) (model t) v tt d; declined = refl; onward = omega arith; budget = omega arith }
 
 pub returns-then-is_over : goal.returns-then-is_over
@@ -27,8 +27,8 @@ returns-then-is_over g c =
     let b = c.args.budget in
     let e : over (place s) ≡ true = sym c.if-is_over.ensures in
     let d = solves_by g.S.Store.behaviour m (vec_items t.voices) (rows_in t) s s v v b c.outcome.result c.outcome.ensures
-    (λ j. over_passes m (model t j) b c.if-budget-eq0.false c.if-budget-gt-MOST_BUDGET.false e)
-    (runs_by g.S.Store.behaviour m b 0 (model t) v (model t) v (omega arith) (ran_none g.S.Store.behaviour m (model t) v 0 refl) (λ j. inl e)) in
+    (over_passes m (model t) b c.if-budget-eq0.false c.if-budget-gt-MOST_BUDGET.false e)
+    (runs_by g.S.Store.behaviour m b 0 (model t) v (model t) v (omega arith) (ran_none g.S.Store.behaviour m (model t) v 0 refl) (inl e)) in
     record { does = d; history = extends_by g.S.Store.behaviour m g.met.B.Bank.lawful (model t) v (solve b) (outcome_answer c.outcome.result (result (place s))) (model t) v tt d; declined = tt; onward = omega arith; budget = omega arith }
 
 pub returns-then-opened-budget-gt-MOST_OPENED : goal.returns-then-opened-budget-gt-MOST_OPENED
@@ -38,7 +38,7 @@ returns-then-opened-budget-gt-MOST_OPENED g c =
     let v = store_in t in
     let b = c.args.budget in
     let h : 1_000_000_000_000 < t.search.opened + b = omega (arith, c.if-opened-budget-gt-MOST_OPENED.true, c.opened.ensures) in
-    let d = declines_by g.S.Store.behaviour m (model t) v (solve b) 14 (λ j. nodes_spent m (model t j) b c.if-budget-eq0.false c.if-budget-gt-MOST_BUDGET.false (sym c.if-is_over.ensures) h) in
+    let d = declines_by g.S.Store.behaviour m (model t) v (solve b) 14 (nodes_spent m (model t) b c.if-budget-eq0.false c.if-budget-gt-MOST_BUDGET.false (sym c.if-is_over.ensures) h) in
     record { does = d; history = extends_by g.S.Store.behaviour m g.met.B.Bank.lawful (model t) v (solve b) (Answer.refused 14) (model t) v tt d; declined = refl; onward = omega arith; budget = omega arith }
 
 pub returns : goal.returns
@@ -52,7 +52,7 @@ returns g c =
     let voices = vec_items t.voices in
     let h : t.search.opened + b ≤ 1_000_000_000_000 = omega (arith, c.if-opened-budget-gt-MOST_OPENED.false, c.opened.ensures) in
     let d = solves_by g.S.Store.behaviour m voices (rows_in t) t.search s v w b c.outcome-2.result c.outcome-2.ensures
-    (λ j. budget_fits m (model t j) b c.if-budget-eq0.false c.if-budget-gt-MOST_BUDGET.false h)
+    (budget_fits m (model t) b c.if-budget-eq0.false c.if-budget-gt-MOST_BUDGET.false h)
     (runs_moved g.S.Store.behaviour m voices c.deref-2.result.now (rows_in t) (rows_of (take t.posted c.deref.result.now)) t.search s v w b c.deref-2.ensures.value
     (ap (λ (x : List Row). rows_of (take t.posted x)) c.deref.ensures.value) c.run.ensures.runs) in
     let more = opens_within g.S.Store.behaviour c.run.ensures.runs in

@@ -15,7 +15,7 @@ pub returns-then-is_over-clause-runs : goal.returns-then-is_over-clause-runs
 returns-then-is_over-clause-runs g c =
     runs_by g.S.Store.behaviour g.B.Bank.meaning c.args.budget c.loop.counter (table_of c.args.voices.now (rows_of c.args.rows.now) c.args.self.now) (g.S.Store.state c.args.store.now)
     (table_of c.args.voices.now (rows_of c.args.rows.now) c.loop.self) (g.S.Store.state c.loop.store)
-    (omega arith) c.loop.invariant.ran (λ j. inl (sym c.if-is_over.ensures))
+    (omega arith) c.loop.invariant.ran (inl (sym c.if-is_over.ensures))
 
 pub loop-preserved : goal.loop-preserved
 loop-preserved g c = record {
@@ -32,4 +32,4 @@ pub returns-clause-runs : goal.returns-clause-runs
 returns-clause-runs g c =
     runs_by g.S.Store.behaviour g.B.Bank.meaning c.args.budget c.loop.counter (table_of c.args.voices.now (rows_of c.args.rows.now) c.args.self.now) (g.S.Store.state c.args.store.now)
     (table_of c.args.voices.now (rows_of c.args.rows.now) c.loop.self) (g.S.Store.state c.loop.store)
-    (omega arith) c.loop.invariant.ran (λ j. inr (omega arith))
+    (omega arith) c.loop.invariant.ran (inr (omega arith))
