@@ -1,5 +1,5 @@
 -- Histories of calls, and the voices and rows that they have given.
-use Rattle.std.specs.Prelude.{ℕ, Bool, true, false, cond, List, [], ◌∷◌, ◌++◌, map}
+use Rattle.std.specs.Prelude.{◌≡◌, ℕ, Bool, true, false, cond, List, [], ◌∷◌, ◌++◌, map}
 use Rattle.rows.specs.Rows.{RowData, Meaning}
 use Rattle.rows.specs.Bytes.{decode}
 use Rattle.stores.specs.Behaviours.{Behaviour}
@@ -18,6 +18,11 @@ abbrev pub keys_lost : {b : Behaviour} {m : Meaning} {g : b.State} {h : List (Ca
     {t : Table} {s : b.State} → History b m g h t s → ℕ
 keys_lost (History.made s e) = 0
 keys_lost (History.then h t u s r c a H f D) = lost_after D (keys_lost H)
+
+-- these calls lead to the table t and the state s, in which the store has lost so many keys
+abbrev pub LeadsTo : (b : Behaviour) (m : Meaning) (g : b.State) (h : List (Call × Answer))
+    → Table → b.State → ℕ → Type 0
+LeadsTo b m g h t s lost = (H : History b m g h t s) × (keys_lost H ≡ lost)
 
 -- the calls of a history
 abbrev pub calls_in : List (Call × Answer) → List Call
