@@ -23,10 +23,6 @@ use Rattle.sheets.proofs.Loaded.{ReadSo, BareRead, none_read, one_voice, one_row
 
 -- ---- a record whose call was made
 
--- a table that has lost no key
-abbrev pub unlost : Table → Table
-unlost t = record { voices = t.voices; rows = t.rows; place = t.place; opened = t.opened; exhausted = t.exhausted; lost = 0 }
-
 module _ (b : Behaviour) (m : Meaning) (t u : Table) (v w : b.State) where
   -- the call was accepted
   passed : (j : Judgement) (i : Item) (n : ℕ) → j ≡ Judgement.passes → goes n ≡ item_step i → u ≡ item_table m t.voices t.rows i → ItemStored b i v w
@@ -35,10 +31,10 @@ module _ (b : Behaviour) (m : Meaning) (t u : Table) (v w : b.State) where
 
   -- it was declined
   turned_down : (j : Judgement) (i : Item) (r : Result (Option ℕ) Cause) (refusal : Refusal) → Unsearched t → r ≡ Err (Declined refusal)
-      → (j ≡ Judgement.declined (refusal_number refusal)) × (u ≡ t) × (w ≡ v) → ItemRead b m t v (if_passes j i) r (unlost u) w
+      → (j ≡ Judgement.declined (refusal_number refusal)) × (u ≡ t) × (w ≡ v) → ItemRead b m t v (if_passes j i) r u w
   turned_down j i r refusal U e d =
-      subst (λ (x : Judgement). ItemRead b m t v (if_passes x i) r (unlost u) w) (sym d.0)
-      (record { step = ap step_of e; table = ap unlost d.1 ∙ ap unlost U; store = d.2 })
+      subst (λ (x : Judgement). ItemRead b m t v (if_passes x i) r u w) (sym d.0)
+      (record { step = ap step_of e; table = d.1 ∙ U; store = d.2 })
 
 declared_by : (b : Behaviour) (m : Meaning) (t u : Table) (v w : b.State) (s : ℕ) → Does b m t v (declare s) Answer.done u w
     → (judged m t (declare s) ≡ Judgement.passes) × (u ≡ begun (t.voices ++ (s ∷ [])) t.rows) × b.empties v w
@@ -60,24 +56,24 @@ pub at_item : (b : Behaviour) (m : Meaning) (t u : Table) (v w : b.State) (i i' 
 at_item b m t u v w i i' r e h = subst (λ (x : Item). ItemRead b m t v x r u w) (sym e) h
 
 module _ (b : Behaviour) (m : Meaning) (t u : Table) (v w : b.State) where
-  pub voice_declared : (s : ℕ) → Does b m t v (declare s) Answer.done u w → ItemRead b m t v (if_passes (judged m (begun t.voices t.rows) (declare s)) (voice s)) (Ok (Some 9)) (unlost u) w
+  pub voice_declared : (s : ℕ) → Does b m t v (declare s) Answer.done u w → ItemRead b m t v (if_passes (judged m (begun t.voices t.rows) (declare s)) (voice s)) (Ok (Some 9)) u w
   voice_declared s D =
       let d = declared_by b m t u v w s D in
-      passed b m t (unlost u) v w (judged m t (declare s)) (voice s) 9 d.0 refl (ap unlost d.1) d.2
+      passed b m t u v w (judged m t (declare s)) (voice s) 9 d.0 refl d.1 d.2
 
   pub voice_declined : (s : ℕ) (r : Result (Option ℕ) Cause) (refusal : Refusal) → Unsearched t → r ≡ Err (Declined refusal)
-      → Does b m t v (declare s) (Answer.refused (refusal_number refusal)) u w → ItemRead b m t v (if_passes (judged m (begun t.voices t.rows) (declare s)) (voice s)) r (unlost u) w
+      → Does b m t v (declare s) (Answer.refused (refusal_number refusal)) u w → ItemRead b m t v (if_passes (judged m (begun t.voices t.rows) (declare s)) (voice s)) r u w
   voice_declined s r refusal U e D =
       turned_down b m t u v w (judged m t (declare s)) (voice s) r refusal U e (declare_declined b m t u v w s (refusal_number refusal) D)
 
   pub row_posted : (bs : List ℕ) → Does b m t v (post bs) Answer.done u w
-      → ItemRead b m t v (if_passes (judged m (begun t.voices t.rows) (post bs)) (row bs)) (Ok (Some (length bs))) (unlost u) w
+      → ItemRead b m t v (if_passes (judged m (begun t.voices t.rows) (post bs)) (row bs)) (Ok (Some (length bs))) u w
   row_posted bs D =
       let d = posted_by b m t u v w bs D in
-      passed b m t (unlost u) v w (judged m t (post bs)) (row bs) (length bs) d.0 refl (ap unlost d.1) d.2
+      passed b m t u v w (judged m t (post bs)) (row bs) (length bs) d.0 refl d.1 d.2
 
   pub row_declined : (bs : List ℕ) (r : Result (Option ℕ) Cause) (refusal : Refusal) → Unsearched t → r ≡ Err (Declined refusal)
-      → Does b m t v (post bs) (Answer.refused (refusal_number refusal)) u w → ItemRead b m t v (if_passes (judged m (begun t.voices t.rows) (post bs)) (row bs)) r (unlost u) w
+      → Does b m t v (post bs) (Answer.refused (refusal_number refusal)) u w → ItemRead b m t v (if_passes (judged m (begun t.voices t.rows) (post bs)) (row bs)) r u w
   row_declined bs r refusal U e D =
       turned_down b m t u v w (judged m t (post bs)) (row bs) r refusal U e (post_declined b m t u v w bs (refusal_number refusal) D)
 
@@ -244,5 +240,5 @@ module _ {b : Behaviour} {m : Meaning} {bs : List ℕ} {w : b.State} {t : Table}
 
 -- ---- a Load's end
 
-pub wiped : (b : Behaviour) (m : Meaning) (t u : Table) (v w : b.State) → Does b m t v wipe Answer.done u w → (unlost u ≡ empty) × b.empties v w
+pub wiped : (b : Behaviour) (m : Meaning) (t u : Table) (v w : b.State) → Does b m t v wipe Answer.done u w → (u ≡ empty) × b.empties v w
 wiped b m t u v w (Does.wipes w' e) = (refl, e)

@@ -6,7 +6,7 @@ use Rattle.stores.specs.Behaviours.{Behaviour}
 use Rattle.search.specs.Calls.{Table, Call, Answer, begun, empty}
 use Rattle.search.specs.Calls.Call.{wipe}
 use Rattle.search.specs.Calls.Answer.{done}
-use Rattle.search.specs.Histories.{History}
+use Rattle.search.specs.Histories.{History, LeadsTo}
 use Rattle.search.specs.Results.{Invariant}
 use Rattle.sheets.specs.declared.fault.Cause.{Cause}
 use Rattle.sheets.specs.declared.fault.Layer.{Layer}
@@ -36,28 +36,38 @@ reading_answer (refused number place layer) = declined number place layer
 
 -- ---- what a Load leaves
 
--- After the calls h, over a store that was in the state g when the table was made, the records of a sheet that comes to this have led to the table u and the state r: by its
--- Declares and Posts, all accepted; where it is declined, by those of the records before the first fault, and a Wipe.
-abbrev pub FillHistory : (b : Behaviour) (m : Meaning) (g : b.State) (h : List (Call × Answer)) (bytes : List ℕ) → SheetReading → Table → b.State → Type 0
-FillHistory b m g h bytes (accepted voices rows) u r = History b m g (posted_after (declared_after h voices) rows) u r
+-- After the calls h, over a store that was in the state g when the table was made, the records of a
+-- sheet that comes to this have led to the table u and the state r: by its Declares and Posts, all
+-- accepted; where it is declined, by those of the records before the first fault, and a Wipe. No key
+-- is lost then, since each of these calls empties the store.
+abbrev pub FillHistory : (b : Behaviour) (m : Meaning) (g : b.State) (h : List (Call × Answer))
+    (bytes : List ℕ) → SheetReading → Table → b.State → Type 0
+FillHistory b m g h bytes (accepted voices rows) u r =
+    LeadsTo b m g (posted_after (declared_after h voices) rows) u r 0
 FillHistory b m g h bytes (refused number place layer) u r =
-    (first : FirstFault m bytes number place layer) × History b m g ((wipe, done) ∷ posted_after (declared_after h first.voices) first.rows) u r
+    (first : FirstFault m bytes number place layer)
+    × LeadsTo b m g ((wipe, done) ∷ posted_after (declared_after h first.voices) first.rows) u r 0
 
 -- a Load is a Wipe, and then these
 abbrev pub LoadHistory : (b : Behaviour) (m : Meaning) (g : b.State) (h : List (Call × Answer)) (bytes : List ℕ) → SheetReading → Table → b.State → Type 0
 LoadHistory b m g h = FillHistory b m g ((wipe, done) ∷ h)
 
--- Whatever the table was, over its store in the state s: it is that of the sheet's voices and rows, or an empty one, its search not begun; and it stands with its store as
--- if it had been made over that store, and then so filled.
+-- Whatever the table was, over its store in the state s: it is that of the sheet's voices and rows,
+-- or an empty one, its search not begun; and it is with its store as if it had been made over that
+-- store, and then so filled.
 pub record LoadLeaves (b : Behaviour) (m : Meaning) (bytes : List ℕ) (s : b.State) (u : Table) (r : b.State) : Type 0 where
   pub table : u ≡ table_after (read_sheet m bytes)
   pub history : FillHistory b m s [] bytes (read_sheet m bytes) u r
-  pub invariant : Invariant m u (b.view r)
+  pub invariant : Invariant m 0 u (b.view r)
 
--- Whatever the calls were that led to the table t and the state s: so it is then; and what stands after every history stands.
-pub record LoadExtends (b : Behaviour) (m : Meaning) (t : ℕ → Table) (s : b.State) (bytes : List ℕ) (u : Table) (r : b.State) : Type 0 where
-  pub history : (g : b.State) (h : List (Call × Answer)) (j : ℕ) → History b m g h (t j) s → LoadHistory b m g h bytes (read_sheet m bytes) u r
-  pub invariant : (g : b.State) (h : List (Call × Answer)) (j : ℕ) → History b m g h (t j) s → Invariant m u (b.view r)
+-- Whatever the calls were that led to the table t and the state s: so it is then; and what holds
+-- after every history holds.
+pub record LoadExtends (b : Behaviour) (m : Meaning) (t : Table) (s : b.State) (bytes : List ℕ)
+    (u : Table) (r : b.State) : Type 0 where
+  pub history : (g : b.State) (h : List (Call × Answer)) → History b m g h t s
+      → LoadHistory b m g h bytes (read_sheet m bytes) u r
+  pub invariant : (g : b.State) (h : List (Call × Answer)) → History b m g h t s
+      → Invariant m 0 u (b.view r)
 
 -- `saved` is the sheet of the table then: where the bytes are accepted, it is these bytes
 abbrev pub LoadBack : SheetReading → List ℕ → List ℕ → Type 0

@@ -18,12 +18,13 @@ use Rattle.sheets.specs.Reading.SheetReading.{accepted}
 module _ {B S : Type 0} {b : bank.Ghosts B} {s : store.Ghosts S} where
   -- the sheet of the table's voices and rows
   abbrev pub sheet_of : Table B S b s → List ℕ
-  sheet_of t = sheet (model t 0).voices (model t 0).rows
+  sheet_of t = sheet (model t).voices (model t).rows
 
--- Whatever the calls were that led to the table t and the state v: its sheet is accepted by Load, and gives back exactly its voices and rows.
-abbrev pub LoadsAgain : (b : Behaviour) → Meaning → (ℕ → calls.Table) → b.State → Type 0
-LoadsAgain b m t v =
-    (g : b.State) (h : List (Call × Answer)) (j : ℕ) → History b m g h (t j) v → read_sheet m (sheet (t 0).voices (t 0).rows) ≡ accepted (t 0).voices (t 0).rows
+-- Whatever the calls were that led to the table t and the state v: its sheet is accepted by Load,
+-- and gives back exactly its voices and rows.
+abbrev pub LoadsAgain : (b : Behaviour) → Meaning → calls.Table → b.State → Type 0
+LoadsAgain b m t v = (g : b.State) (h : List (Call × Answer)) → History b m g h t v
+    → read_sheet m (sheet t.voices t.rows) ≡ accepted t.voices t.rows
 
 -- Bytes written at the front of a buffer: how many, or that it is too short; and the buffer then, as it was beyond them, or all of it as it was.
 abbrev pub written_answer : List ℕ → List ℕ → Result ℕ Refusal

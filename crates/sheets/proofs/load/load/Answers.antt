@@ -10,7 +10,7 @@ read_records-result-requires g c =
     let t = c.args.table.now in
     let u = c.wipe.new.self in
     let d = c.wipe.ensures.does in
-    (wiped g.S.Store.behaviour g.B.Bank.meaning (model t 0) (model u (d.lost 0)) (store_in t) (store_in u) (d.does 0)).0
+    (wiped g.S.Store.behaviour g.B.Bank.meaning (model t) (model u) (store_in t) (store_in u) d).0
 
 pub returns : goal.returns
 returns g c =
@@ -24,16 +24,16 @@ returns g c =
     let b : Bytes bs = λ i l. (c.type_inv.bytes i).fits in
     let emptied = c.wipe.new.self in
     let d = c.wipe.ensures.does in
-    let loaded : Loaded st m bs (store_in t) (store_in emptied) (model s 0) (store_in s) c.read_records-result.result (model u 0) (store_in u) = record {
-      wiped = (wiped st m (model t 0) (model emptied (d.lost 0)) (store_in t) (store_in emptied) (d.does 0)).1;
+    let loaded : Loaded st m bs (store_in t) (store_in emptied) (model s) (store_in s) c.read_records-result.result (model u) (store_in u) = record {
+      wiped = (wiped st m (model t) (model emptied) (store_in t) (store_in emptied) d).1;
       read = c.read_records-result.ensures;
-      declined = λ e. let d = c.wipe_declined.ensures.declined e in wiped st m (model s 0) (model u (d.lost 0)) (store_in s) (store_in u) (d.does 0);
-      accepted = λ e. let same = c.wipe_declined.ensures.accepted e in (ap (λ x. model x 0) same, ap store_in same);
+      declined = λ e. let d = c.wipe_declined.ensures.declined e in wiped st m (model s) (model u) (store_in s) (store_in u) d;
+      accepted = λ e. let same = c.wipe_declined.ensures.accepted e in (ap model same, ap store_in same);
     } in
     let left = leaves st m L bs loaded in
     record {
       value = answers st m L bs loaded;
       after = left;
-      back = loads_back m L bs b (model u 0) left.table;
+      back = loads_back m L bs b (model u) left.table;
       history = history st m L bs loaded (model t);
     }

@@ -19,8 +19,8 @@ returns-in_err-post g c =
     let r = c.from_residual.result in
     let p = err_from_is_err_and r c.from_residual.ensures.1 in
     let d = c.in_err-post.ensures.does in
-    subst (λ (x : List ℕ). ItemRead g.S.Store.behaviour m (model t 0) v (if_passes (judged m (begun (model t 0).voices (model t 0).rows) (post x)) (row x)) r (model u 0) w) c.front_row-row.ensures
-    (row_declined g.S.Store.behaviour m (model t 0) (model u (d.lost 0)) v w c.front_row-row.result.now r c.in_err-post.field-0.0 c.requires (p.1 ∙ ap Err p.2) (d.does 0))
+    subst (λ (x : List ℕ). ItemRead g.S.Store.behaviour m (model t) v (if_passes (judged m (begun (model t).voices (model t).rows) (post x)) (row x)) r (model u) w) c.front_row-row.ensures
+    (row_declined g.S.Store.behaviour m (model t) (model u) v w c.front_row-row.result.now r c.in_err-post.field-0.0 c.requires (p.1 ∙ ap Err p.2) d)
 
 pub returns : goal.returns
 returns g c =
@@ -30,6 +30,6 @@ returns g c =
     let v = store_in t in
     let w = store_in u in
     let d = c.in_ok-post.ensures.does in
-    subst (λ (x : List ℕ). ItemRead g.S.Store.behaviour m (model t 0) v (if_passes (judged m (begun (model t 0).voices (model t 0).rows) (post x)) (row x)) (Ok (Some (length c.front_row-row.result.now))) (model u 0) w)
+    subst (λ (x : List ℕ). ItemRead g.S.Store.behaviour m (model t) v (if_passes (judged m (begun (model t).voices (model t).rows) (post x)) (row x)) (Ok (Some (length c.front_row-row.result.now))) (model u) w)
     c.front_row-row.ensures
-    (row_posted g.S.Store.behaviour m (model t 0) (model u (d.lost 0)) v w c.front_row-row.result.now (d.does 0))
+    (row_posted g.S.Store.behaviour m (model t) (model u) v w c.front_row-row.result.now d)

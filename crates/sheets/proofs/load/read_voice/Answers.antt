@@ -23,7 +23,7 @@ returns-then-not-is_empty g c =
     let t = c.args.table.now in
     let bs = c.args.rest.now in
     let some : length (rows_in t) ≡ 0 → ⊥ = λ z. eqb-false (length c.rows.result.now) 0 (sym c.if-not-is_empty.ensures) (sym (length-map c.rows.result.now row_of) ∙ ap length c.rows.ensures ∙ z) in
-    at_item g.S.Store.behaviour m (model t 0) (model t 0) (store_in t) (store_in t) (fault 3 0 Sheet) (voice_item m (vec_items t.voices) (rows_in t) bs) (Err LateVoice)
+    at_item g.S.Store.behaviour m (model t) (model t) (store_in t) (store_in t) (fault 3 0 Sheet) (voice_item m (vec_items t.voices) (rows_in t) bs) (Err LateVoice)
     (late_voice m (vec_items t.voices) (rows_in t) bs some)
     (record { step = refl; table = c.requires; store = refl })
 
@@ -34,7 +34,7 @@ returns-in_default g c =
     let bs = c.args.rest.now in
     let none : length (rows_in t) ≡ 0 = sym (ap length c.rows.ensures) ∙ length-map c.rows.result.now row_of ∙ eqb-true (length c.rows.result.now) 0 (sym c.if-not-is_empty.ensures) in
     let short : length bs < 8 = c.in_default.ensures.cases in
-    at_item g.S.Store.behaviour m (model t 0) (model t 0) (store_in t) (store_in t) (fault 6 0 Sheet) (voice_item m (vec_items t.voices) (rows_in t) bs) (Err CutVoice)
+    at_item g.S.Store.behaviour m (model t) (model t) (store_in t) (store_in t) (fault 6 0 Sheet) (voice_item m (vec_items t.voices) (rows_in t) bs) (Err CutVoice)
     (cut_voice m (vec_items t.voices) (rows_in t) bs none short)
     (record { step = refl; table = c.requires; store = refl })
 
@@ -54,9 +54,9 @@ returns-in_err-declare g c =
     let none : length (rows_in t) ≡ 0 = sym (ap length c.rows.ensures) ∙ length-map c.rows.result.now row_of ∙ eqb-true (length c.rows.result.now) 0 (sym c.if-not-is_empty.ensures) in
     let long : 8 ≤ length bs = c.in-Some.ensures.cases.enough in
     let number : number_in (take 8 bs) ≡ s = eight_bytes bs long ∙ ap (from_le_bytes w64) (sym c.in-Some.ensures.cases.same) ∙ sym c.from_le_bytes.ensures in
-    at_item g.S.Store.behaviour m (model t 0) (model u 0) v w (if_passes (judged m (begun (vec_items t.voices) (rows_in t)) (declare s)) (voice s)) (voice_item m (vec_items t.voices) (rows_in t) bs) r
+    at_item g.S.Store.behaviour m (model t) (model u) v w (if_passes (judged m (begun (vec_items t.voices) (rows_in t)) (declare s)) (voice s)) (voice_item m (vec_items t.voices) (rows_in t) bs) r
     (whole_voice m (vec_items t.voices) (rows_in t) bs s none long number)
-    (voice_declined g.S.Store.behaviour m (model t 0) (model u (d.lost 0)) v w s r refusal c.requires (p.1 ∙ ap Err p.2) (d.does 0))
+    (voice_declined g.S.Store.behaviour m (model t) (model u) v w s r refusal c.requires (p.1 ∙ ap Err p.2) d)
 
 pub returns : goal.returns
 returns g c =
@@ -71,6 +71,6 @@ returns g c =
     let none : length (rows_in t) ≡ 0 = sym (ap length c.rows.ensures) ∙ length-map c.rows.result.now row_of ∙ eqb-true (length c.rows.result.now) 0 (sym c.if-not-is_empty.ensures) in
     let long : 8 ≤ length bs = c.in-Some.ensures.cases.enough in
     let number : number_in (take 8 bs) ≡ s = eight_bytes bs long ∙ ap (from_le_bytes w64) (sym c.in-Some.ensures.cases.same) ∙ sym c.from_le_bytes.ensures in
-    at_item g.S.Store.behaviour m (model t 0) (model u 0) v w (if_passes (judged m (begun (vec_items t.voices) (rows_in t)) (declare s)) (voice s)) (voice_item m (vec_items t.voices) (rows_in t) bs) (Ok (Some 9))
+    at_item g.S.Store.behaviour m (model t) (model u) v w (if_passes (judged m (begun (vec_items t.voices) (rows_in t)) (declare s)) (voice s)) (voice_item m (vec_items t.voices) (rows_in t) bs) (Ok (Some 9))
     (whole_voice m (vec_items t.voices) (rows_in t) bs s none long number)
-    (voice_declared g.S.Store.behaviour m (model t 0) (model u (d.lost 0)) v w s (d.does 0))
+    (voice_declared g.S.Store.behaviour m (model t) (model u) v w s d)

@@ -21,7 +21,7 @@ returns-then-out-length g c =
     record {
       value = short_answer (sheet_of t) c.args.out.now short;
       after = short_after (sheet_of t) c.args.out.now short;
-      again = λ x h j H. saves_again g.S.Store.behaviour g.B.Bank.meaning g.met.B.Bank.lawful (model t j) (store_in t) x h H;
+      again = λ x h H. saves_again g.S.Store.behaviour g.B.Bank.meaning g.met.B.Bank.lawful (model t) (store_in t) x h H;
     }
 
 pub returns : goal.returns
@@ -40,5 +40,5 @@ returns g c =
     record {
       value = saved_answer (sheet_of t) out (9 * length c.voices.result.now + c.row_bytes.result + 1) long fits;
       after = search (rules, same) ∙ saved_after (sheet_of t) out c.put.new.self.out.now bytes fits;
-      again = λ x h j H. saves_again g.S.Store.behaviour g.B.Bank.meaning g.met.B.Bank.lawful (model t j) (store_in t) x h H;
+      again = λ x h H. saves_again g.S.Store.behaviour g.B.Bank.meaning g.met.B.Bank.lawful (model t) (store_in t) x h H;
     }
