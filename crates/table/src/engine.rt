@@ -1,4 +1,5 @@
-// The search: its levels, keys, backing up, and one node after the other, in memory that is reserved when it is made.
+// The search, in memory that is reserved when it is made: its levels, the keys of its nodes, what a node is, and nodes
+// opened one after the other.
 pub(crate) mod keys;
 pub(crate) mod level;
 pub(crate) mod levels;

@@ -5,16 +5,19 @@ ghost use Rattle.table.specs.Outcomes.{outcome_name};
 
 use std::fmt;
 
-// It is not over, it has found values, there is no lawful placing.
+/// What a search has come to.
 #[derive(Clone, Copy, Debug, PartialEq, Eq)]
 pub enum Outcome {
+    /// It is not over: it has not begun, or its budget was used up.
     Stopped,
+    /// It has found the least lawful placing.
     Found,
+    /// There is no lawful placing.
     None,
 }
 
 impl Outcome {
-    // What a report calls it.
+    /// The word for it in a report.
     pub fn name(self) -> &'static str
         ensures { result.now ≡ outcome_name self }
     {

@@ -19,27 +19,34 @@ use std::alloc::{AllocError, Global};
 use std::marker::PhantomData;
 use stores::store::Store;
 
-// The most voices, which are a search's.
+// the most voices, which are a search's
 pub use crate::engine::state::MOST_VOICES;
 
-// The most rows and bytes of rows.
+/// The most rows.
 pub const MOST_ROWS: usize = 120;
 
+/// The most bytes that the rows have together.
 pub const MOST_BYTES: usize = 8192;
 
-// The largest budget, and how many nodes a search opens at most.
+// The largest budget of a call.
 const MOST_BUDGET: u64 = 1_000_000;
 
+// How many nodes a search opens at most.
 const MOST_OPENED: u64 = 1_000_000_000_000;
 
-// Voices and rows over the bank B, and a search for their least lawful placing with the store S. All memory is reserved when the table is made.
+/// Voices, each with its opening set of values; rows over the bank `B`, each a rule that some voices obey; and a search
+/// for the least placing that obeys them all, which keeps the keys of failed nodes in the store `S`.
+///
+/// All memory is reserved by `make`, so no later call can lack any. A call that is refused leaves voices, rows, search
+/// and store as they were.
 #[derive(Drop)]
 pub struct Table<B: Bank, S: Store> {
     bank: PhantomData<B>,
     store: S,
     // the opening sets of the voices
     voices: Vec<ValueSet>,
-    // memory for the rows and one more, which bytes are read into: the first `posted` are the table's (counted beside, since no call after Make may want memory)
+    // memory for the rows and one more, which bytes are read into: the first `posted` are the table's (counted beside,
+    // since no call after `make` may allocate)
     rows: Vec<Row>,
     posted: usize,
     // how many bytes the table's rows have together
@@ -53,7 +60,9 @@ pub struct Table<B: Bank, S: Store> {
     ghost short: { bytes ≤ most_bytes },
     ghost weighed: { total_bytes (rows_of (take posted rows.items)) ≡ bytes },
     // the bank accepts each row with as many voices as there are, and no opening set is empty
-    ghost ready: { Ready B.Bank.meaning (rows_of (take posted rows.items)) (vec_items voices) } by { ready_once B.Bank.meaning (rows_of (take posted rows.items)) (vec_items voices) },
+    ghost ready: { Ready B.Bank.meaning (rows_of (take posted rows.items))
+        (vec_items voices) } by { ready_once B.Bank.meaning
+            (rows_of (take posted rows.items)) (vec_items voices) },
 }
 
 // Memory for the rows, and one more.
@@ -70,7 +79,7 @@ fn make_rows(heap: Global) -> Result<Vec<Row>, AllocError>
 impl<B: Bank, S: Store + Drop> Table<B, S> {
     ghost use Rattle.table.specs.Shown.{Begins};
 
-    // A table with no voices and no rows, over the store, which is emptied.
+    /// A table with no voices and no rows over this store, which it empties. It fails only where memory is short.
     pub fn make(heap: Global, store: S) -> Result<Table<B, S>, AllocError>
         ensures { IfOk result (λ t. Begins (S.Store.state store) t) }
     {
@@ -94,7 +103,10 @@ impl<B: Bank, S: Store + Drop> Table<B, S> {
 impl<B: Bank, S: Store> Table<B, S> {
     ghost use Rattle.table.specs.Shown.{model, rows_in, found_in, CallDone, CallExtends, done_answer, solve_answer, read_answer, LeftAlone};
 
-    // One voice more, with this opening set. The store is emptied, and the search begins again.
+    /// Adds a voice with this opening set; voices are numbered from 0 in the order in which they are declared. The store
+    /// is emptied, and the search begins again.
+    ///
+    /// Refused where the set is empty or there are as many voices as there can be.
     pub fn declare(&mut self, set: ValueSet) -> Result<(), Refusal>
         ensures does { CallDone self.old (Call.declare set) (done_answer result) self.new }
         ensures history { CallExtends self.old (Call.declare set) (done_answer result) self.new }
@@ -115,7 +127,8 @@ impl<B: Bank, S: Store> Table<B, S> {
 
     // Whether there is room for one row more, of so many bytes.
     fn has_room(&self, bytes: usize) -> bool
-        ensures { result ≡ not (nat_le most_rows (length (rows_in self.now)) || nat_lt most_bytes (total_bytes (rows_in self.now) + bytes)) }
+        ensures { result ≡ not (nat_le most_rows (length (rows_in self.now))
+            || nat_lt most_bytes (total_bytes (rows_in self.now) + bytes)) }
     {
         if self.posted >= MOST_ROWS {
             return false;
@@ -123,7 +136,10 @@ impl<B: Bank, S: Store> Table<B, S> {
         bytes <= MOST_BYTES - self.bytes
     }
 
-    // One row more, from its bytes. The store is emptied, and the search begins again.
+    /// Adds a row, read from its bytes. The store is emptied, and the search begins again.
+    ///
+    /// Refused where the bytes are no row of a kind that the bank has, where that kind does not accept the row over the
+    /// voices that there are, and where there is no room for it.
     pub fn post(&mut self, bytes: &[u8]) -> Result<(), Refusal>
         ensures does { CallDone self.old (Call.post bytes.now) (done_answer result) self.new }
         ensures history { CallExtends self.old (Call.post bytes.now) (done_answer result) self.new }
@@ -141,7 +157,7 @@ impl<B: Bank, S: Store> Table<B, S> {
         Ok(())
     }
 
-    // No voices and no rows. The store is emptied.
+    /// Drops all voices and rows. The store is emptied, and the search begins again.
     pub fn wipe(&mut self)
         ensures does { CallDone self.old Call.wipe Answer.done self.new }
         ensures history { CallExtends self.old Call.wipe Answer.done self.new }
@@ -153,10 +169,15 @@ impl<B: Bank, S: Store> Table<B, S> {
         self.store.clear();
     }
 
-    // Opens nodes until the search is over, and at most `budget` of them. Found values are read by `read`.
+    /// Searches on from where the search is, until it is over or `budget` nodes are opened. What was found is read by
+    /// `read`. Where the search is over already, it opens no node and returns the same outcome again.
+    ///
+    /// Refused where the budget is not 1 to 1,000,000, and where the search could open more nodes than it may.
     pub fn solve(&mut self, budget: u64) -> Result<Outcome, Refusal>
-        ensures does { CallDone self.old (Call.solve budget) (solve_answer result (found_in self.new)) self.new }
-        ensures history { CallExtends self.old (Call.solve budget) (solve_answer result (found_in self.new)) self.new }
+        ensures does { CallDone self.old (Call.solve budget)
+            (solve_answer result (found_in self.new)) self.new }
+        ensures history { CallExtends self.old (Call.solve budget)
+            (solve_answer result (found_in self.new)) self.new }
         ensures declined { OnErr result (self.new ≡ self.old) }
         ensures onward { (model self.old 0).opened ≤ (model self.new 0).opened }
         ensures budget { (model self.new 0).opened ≤ (model self.old 0).opened + budget }
@@ -186,31 +207,35 @@ impl<B: Bank, S: Store> Table<B, S> {
         self.search.is_over()
     }
 
-    // How many nodes the search has opened.
+    /// How many nodes the search has opened since it last began.
     pub fn opened(&self) -> u64
         ensures { result ≡ (model self.now 0).opened }
     {
         self.search.opened()
     }
 
-    // How many nodes were exhausted since the store was emptied.
+    /// How many nodes were exhausted since the search last began: all their children failed.
     pub fn exhausted(&self) -> u64
         ensures { result ≡ (model self.now 0).exhausted }
     {
         self.search.exhausted()
     }
 
-    // What the search has come to; it goes no further.
+    /// What the search has come to so far; it opens no node.
     pub fn outcome(&self) -> Outcome
         ensures { result ≡ outcome_of (model self.now 0).place }
     {
         self.search.outcome()
     }
 
-    // Writes the found values at the front of `out`, and answers how many; bytes beyond them stay.
+    /// Writes the values that were found at the front of `out`, one byte a voice, and returns how many; bytes beyond
+    /// them stay.
+    ///
+    /// Refused where nothing was found, and where `out` is shorter than what was found; then `out` stays as it was.
     pub fn read(&self, out: &mut [u8]) -> Result<usize, Refusal>
         ensures does { CallDone self.now (Call.read out.old) (read_answer result out.new) self.now }
-        ensures history { CallExtends self.now (Call.read out.old) (read_answer result out.new) self.now }
+        ensures history { CallExtends self.now (Call.read out.old)
+            (read_answer result out.new) self.now }
         ensures buffer { LeftAlone result out.old out.new }
     {
         match self.search.outcome() {
@@ -225,7 +250,7 @@ impl<B: Bank, S: Store> Table<B, S> {
         Ok(sets.len())
     }
 
-    // The opening sets of the voices, in order.
+    /// The opening sets of the voices, in order.
     pub fn voices(&self) -> &[ValueSet]
         ensures value { result.now ≡ (model self.now 0).voices }
         ensures bound { length result.now ≤ most_voices }
@@ -233,14 +258,14 @@ impl<B: Bank, S: Store> Table<B, S> {
         &self.voices
     }
 
-    // The rows, in the order in which they were posted.
+    /// The rows, in the order in which they were posted.
     pub fn rows(&self) -> &[Row]
         ensures { rows_of result.now ≡ rows_in self.now }
     {
         &self.rows[..self.posted]
     }
 
-    // How many bytes the rows have, all together.
+    /// How many bytes the rows have together.
     pub fn row_bytes(&self) -> usize
         ensures value { result ≡ total_bytes (rows_in self.now) }
         ensures bound { result ≤ most_bytes }

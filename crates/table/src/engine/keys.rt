@@ -18,8 +18,9 @@ const KEY_WORDS: usize = 320;
 
 // Room for a key, reserved when it is made. It stays filled, since a key is written into a slice.
 //
-// That the rows are few is asked by each function that is lent them, and the store is lent beside them: a struct around the two would hold a `&mut` of the
-// table's store, and each function would have to say that it gives the same store back.
+// Each function that borrows the rows requires that they are few, and the store is passed beside them: a struct around
+// the two would hold a `&mut` of the table's store, and each function would have to say that it gives the same store
+// back.
 #[derive(Drop)]
 pub(crate) struct KeyBuffer {
     words: Vec<u64>,
@@ -42,7 +43,8 @@ impl KeyBuffer {
     ) -> bool
         requires sets { length sets.now ≤ most_voices }
         requires rows { length rows.now ≤ most_rows }
-        ensures { result ≡ member (key B.Bank.meaning (rows_of rows.now) sets.now) (S.Store.behaviour.view (S.Store.state store.now)).held }
+        ensures { result ≡ member (key B.Bank.meaning (rows_of rows.now) sets.now)
+            (S.Store.behaviour.view (S.Store.state store.now)).held }
     {
         if store.is_empty() {
             return false;
@@ -57,7 +59,8 @@ impl KeyBuffer {
     pub(crate) fn give<B: Bank, S: Store>(&mut self, rows: &[Row], sets: &[ValueSet], store: &mut S)
         requires sets { length sets.now ≤ most_voices }
         requires rows { length rows.now ≤ most_rows }
-        ensures { Given S.Store.behaviour (S.Store.state store.old) (key B.Bank.meaning (rows_of rows.now) sets.now) (S.Store.state store.new) }
+        ensures { Given S.Store.behaviour (S.Store.state store.old)
+            (key B.Bank.meaning (rows_of rows.now) sets.now) (S.Store.state store.new) }
     {
         if store.turns_away(sets.len() + 2 * rows.len()) {
             return;

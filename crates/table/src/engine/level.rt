@@ -12,7 +12,7 @@ pub(crate) struct LevelRecord {
 }
 
 impl LevelRecord {
-    // Takes out the least value that is left to try, and returns it; 64 if there is none, and then nothing is taken out.
+    // Takes out the least value that is left to try, and returns it; returns 64 where none is left.
     pub(crate) fn advance(&mut self) -> u32
         ensures value { result ≡ least self.old.left }
         ensures inside { 0 < self.old.left → result < 64 }
@@ -25,8 +25,8 @@ impl LevelRecord {
     }
 }
 
-// Where a search stands that has no level: its root is not opened yet, it has found values, it has searched everything.
-// It says nothing of a search with levels: a variant that held them would move them at each node.
+// What a search has come to that has no level: its root is not opened yet, it has found values, it has searched
+// everything. Of a search with levels it says nothing: a variant that held them would move them at each node.
 #[derive(Clone, Copy, Debug, PartialEq, Eq)]
 pub(crate) enum End {
     Fresh,

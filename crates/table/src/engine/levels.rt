@@ -1,4 +1,4 @@
-// The levels of a search, as a stack: made, dropped, put on top and taken from there, and backed up.
+// The levels of a search, as a stack.
 ghost use Rattle.std.specs.Prelude.{◌≡◌, ◌+◌, ◌*◌, ◌<◌, ◌≤◌, false, ◌∷◌, length, slice_index, vec_items, vec_len, vec_capacity, IfOk};
 ghost use Rattle.sets.specs.Placings.{Proper};
 ghost use Rattle.rows.specs.Views.{rows_of};
@@ -18,8 +18,8 @@ use stores::store::Store;
 // The sets of all levels.
 const TRAIL: usize = MOST_VOICES * MOST_VOICES;
 
-// The levels, the newest last, in memory that is reserved when they are made. A record and its sets lie in two vectors, since a vector for each level would have
-// to be reserved 80 times; and each method says that it keeps `width`, which no ghost field can say.
+// The levels, the newest last. A level's record and its sets lie in two vectors, since a vector for each level would
+// have to be reserved 80 times. Each method says that it keeps `width`, which no ghost field can say.
 #[derive(Drop)]
 pub(crate) struct Levels {
     // how many sets a level has: one for each voice
@@ -105,14 +105,17 @@ impl Levels {
         &self.trail[self.trail.len() - self.width..]
     }
 
-    // A level on top: a node with these sets, whose children fix the voice, which is none that the levels below it fix.
+    // Puts a level on top: a node with these sets, whose children fix the voice, which is none that the levels below it
+    // fix.
     pub(crate) fn push(&mut self, voice: usize, sets: &[ValueSet])
         requires width { length sets.now ≡ self.old.width }
         requires inside { voice < length sets.now }
         requires above { below (listed self.old) ≤ voice }
         requires proper { Proper sets.now }
         ensures width { self.new.width ≡ self.old.width }
-        ensures list { listed self.new ≡ record { sets = sets.now; voice = voice; left = slice_index sets.now voice } ∷ listed self.old }
+        ensures list { listed self.new
+            ≡ record { sets = sets.now; voice = voice; left = slice_index sets.now voice }
+            ∷ listed self.old }
     {
         // there is room, so that this allocates nothing and cannot fail
         let _ = self.trail.extend_from_slice(sets);
@@ -134,8 +137,8 @@ impl Levels {
         self.trail.truncate(rest);
     }
 
-    // Writes the sets of the node that is opened next: the voices' opening sets where there is no level, otherwise those of the newest level, with its voice
-    // fixed to the least value that is left to try, which is taken out of the level.
+    // Writes the sets of the node that is opened next: the voices' opening sets where there is no level, otherwise those
+    // of the newest level, with its voice fixed to the least value that is left to try, which is taken out of the level.
     pub(crate) fn enter_next(&mut self, voices: &[ValueSet], sets: &mut [ValueSet])
         requires voices { length voices.now ≡ self.old.width }
         requires width { length sets.old ≡ self.old.width }
@@ -155,7 +158,8 @@ impl Levels {
         sets[voice] = single(value);
     }
 
-    // Gives the store the key of each level that has no value left to try, from the newest on, and drops it; says how many these were.
+    // Backs up from a failed node: gives the store the key of each level that has no value left to try, from the newest
+    // on, and drops the level. Returns how many these were.
     pub(crate) fn back_up<B: Bank, S: Store>(
         &mut self,
         rows: &[Row],
@@ -166,7 +170,9 @@ impl Levels {
         ensures width { self.new.width ≡ self.old.width }
         ensures few { result ≤ self.old.width }
         ensures history { is_spent (listed self.new) ≡ false }
-        ensures backs { Backed S.Store.behaviour B.Bank.meaning (rows_of rows.now) (listed self.old) (S.Store.state store.old) (listed self.new) (S.Store.state store.new) result }
+        ensures backs { Backed S.Store.behaviour B.Bank.meaning (rows_of rows.now)
+            (listed self.old) (S.Store.state store.old)
+            (listed self.new) (S.Store.state store.new) result }
     {
         let mut exhausted = 0;
         while self.is_spent() {

@@ -15,12 +15,16 @@ use search::propagation::propagate;
 use sets::{ValueSet, is_fixed};
 use stores::store::Store;
 
-// A set is empty; all voices are fixed; the store holds its key; it has children, which fix this voice.
+// What a node is.
 #[derive(Clone, Copy, Debug, PartialEq, Eq)]
 pub(crate) enum Node {
+    // a set is empty
     Dead,
+    // all voices are fixed
     Solution,
+    // the store holds its key
     Hit,
+    // it has children, which fix this voice
     Branch(usize),
 }
 
@@ -54,7 +58,8 @@ pub(crate) fn classify<B: Bank, S: Store>(
     requires inside { from ≤ length sets.old }
     requires ready { Ready B.Bank.meaning (rows_of rows.now) sets.old }
     ensures after { sets.new ≡ propagated B.Bank.meaning (rows_of rows.now) sets.old }
-    ensures value { node B.Bank.meaning (rows_of rows.now) (S.Store.behaviour.view (S.Store.state store.now)) from sets.new ≡ node_of result sets.new }
+    ensures value { node B.Bank.meaning (rows_of rows.now)
+        (S.Store.behaviour.view (S.Store.state store.now)) from sets.new ≡ node_of result sets.new }
     ensures branches { Branches result from sets.new }
 {
     if propagate::<B>(rows, sets) {

@@ -1,4 +1,4 @@
-// A search: made, begun again, run one node after the other, and asked what it has come to.
+// A search, one node after the other.
 ghost use Rattle.std.specs.Prelude.{◌≡◌, ◌+◌, ◌*◌, ◌<◌, ◌≤◌, false, length, vec_len, vec_capacity, IfOk};
 ghost use Rattle.rows.specs.Views.{rows_of};
 ghost use Rattle.rows.specs.Placed.{Ready};
@@ -21,7 +21,7 @@ use stores::store::Store;
 // The most voices that a search has.
 pub const MOST_VOICES: usize = 80;
 
-// Where a search stands, and the memory that it works in, all of it reserved when it is made.
+// What a search has come to, and the memory that it works in, all of it reserved when it is made.
 #[derive(Drop)]
 pub(crate) struct Search {
     // the sets of the node that is opened, or that was found: one for each voice
@@ -125,7 +125,9 @@ impl Search {
         requires rows { length rows.now ≤ most_rows }
         requires few { self.old.opened < most_opened }
         requires ready { Ready B.Bank.meaning (rows_of rows.now) voices.now }
-        ensures goes { Ran S.Store.behaviour B.Bank.meaning 1 (table_of voices.now (rows_of rows.now) self.old) (S.Store.state store.old) (table_of voices.now (rows_of rows.now) self.new) (S.Store.state store.new) }
+        ensures goes { Ran S.Store.behaviour B.Bank.meaning 1
+            (table_of voices.now (rows_of rows.now) self.old) (S.Store.state store.old)
+            (table_of voices.now (rows_of rows.now) self.new) (S.Store.state store.new) }
         ensures voices { voice_count self.new ≡ voice_count self.old }
         ensures count { self.new.opened ≡ self.old.opened + 1 }
     {
@@ -158,7 +160,9 @@ impl Search {
         requires rows { length rows.now ≤ most_rows }
         requires few { self.old.opened + budget ≤ most_opened }
         requires ready { Ready B.Bank.meaning (rows_of rows.now) voices.now }
-        ensures runs { Runs S.Store.behaviour B.Bank.meaning budget (table_of voices.now (rows_of rows.now) self.old) (S.Store.state store.old) (table_of voices.now (rows_of rows.now) self.new) (S.Store.state store.new) }
+        ensures runs { Runs S.Store.behaviour B.Bank.meaning budget
+            (table_of voices.now (rows_of rows.now) self.old) (S.Store.state store.old)
+            (table_of voices.now (rows_of rows.now) self.new) (S.Store.state store.new) }
         ensures voices { voice_count self.new ≡ voice_count self.old }
     {
         for _ in 0..budget {

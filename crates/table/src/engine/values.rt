@@ -9,8 +9,7 @@ pub(crate) fn write_values(sets: &[ValueSet], out: &mut [u8])
     requires { length sets.now ≤ length out.old }
     ensures { out.new ≡ values sets.now ++ drop (length sets.now) out.old }
 {
-    // By index: over `iter_mut` and `zip` a loop's invariant cannot speak of what `out` holds. A key's voices are written by such a loop too, into words: over a
-    // closure for what is written the clause would say less.
+    // By index: after a loop over `iter_mut` and `zip` nothing is known of what `out` holds.
     for (i, s) in sets.iter().enumerate() {
         out[i] = least_value(*s) as u8;
     }
