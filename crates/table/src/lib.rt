@@ -8,7 +8,7 @@
 mod engine;
 pub mod outcome;
 pub mod refusal;
-pub mod table;
+mod table;
 
 pub use crate::engine::state::MOST_VOICES;
-pub use crate::table::Table;
+pub use crate::table::{MOST_BYTES, MOST_ROWS, Table};
