@@ -14,7 +14,7 @@ use sets::ValueSet;
 // The most values that a set has.
 const MOST_VALUES: u128 = 64;
 
-// Whether some set has no value.
+/// Whether some set has no value.
 pub fn has_empty(sets: &[ValueSet]) -> bool
     ensures { result ≡ some_empty sets.now }
 {
@@ -37,12 +37,15 @@ enum RoundEnd {
     Due(usize),
 }
 
-// Each row has a turn in order, until one empties a set. Where none has changed a set yet, the rows from `quiet` on need none: theirs left these sets as they
-// are. Another round is due where some turn changed a set and none emptied one.
+// Each row has a turn in order, until one empties a set. As long as none has changed a set, the rows from `stable` on
+// need no turn: their last turns left these sets as they are. Another round is due where some turn changed a set and
+// none emptied one.
 fn run_round<B: Bank>(rows: &[Row], sets: &mut [ValueSet], stable: usize) -> RoundEnd
-    ensures done { Ready B.Bank.meaning (rows_of rows.now) sets.old → Stable B.Bank.meaning (rows_of (drop stable rows.now)) sets.old
+    ensures done { Ready B.Bank.meaning (rows_of rows.now) sets.old
+        → Stable B.Bank.meaning (rows_of (drop stable rows.now)) sets.old
         → RoundDone B.Bank.meaning rows.now sets.old (due_of result) sets.new }
-    ensures emptied { Ready B.Bank.meaning (rows_of rows.now) sets.old → Stable B.Bank.meaning (rows_of (drop stable rows.now)) sets.old
+    ensures emptied { Ready B.Bank.meaning (rows_of rows.now) sets.old
+        → Stable B.Bank.meaning (rows_of (drop stable rows.now)) sets.old
         → is_emptied result ≡ some_empty sets.new }
 {
     let mut next = RoundEnd::Settled;
@@ -62,10 +65,14 @@ fn run_round<B: Bank>(rows: &[Row], sets: &mut [ValueSet], stable: usize) -> Rou
     next
 }
 
-// Rounds as long as another is due; says whether a set is empty then. What a turn answers is known where its row is accepted and no set is empty.
+/// Propagates the rows over the sets until no turn changes one or some set is empty, and returns whether one is. The
+/// contract speaks only of rows that are accepted, and of sets none of which is empty at first: elsewhere nothing is
+/// known of a turn.
 pub fn propagate<B: Bank>(rows: &[Row], sets: &mut [ValueSet]) -> bool
-    ensures after { Ready B.Bank.meaning (rows_of rows.now) sets.old → sets.new ≡ propagated B.Bank.meaning (rows_of rows.now) sets.old }
-    ensures value { Ready B.Bank.meaning (rows_of rows.now) sets.old → result ≡ some_empty sets.new }
+    ensures after { Ready B.Bank.meaning (rows_of rows.now) sets.old
+        → sets.new ≡ propagated B.Bank.meaning (rows_of rows.now) sets.old }
+    ensures value { Ready B.Bank.meaning (rows_of rows.now) sets.old
+        → result ≡ some_empty sets.new }
 {
     let mut stable = rows.len();
     for _ in 0..=MOST_VALUES * sets.len() as u128 {
