@@ -10,3 +10,4 @@ pub mod Written
 pub mod WrittenRows
 pub mod Shared
 pub mod Placed
+pub mod NewRows

@@ -61,15 +61,6 @@ fn members_start<B: Bank>(bytes: &[u8]) -> Result<usize, RowFault>
     Ok(start)
 }
 
-// Puts bytes after the body, as far as a body goes.
-fn push_body(row: &mut Row, bytes: &[u8])
-    ensures { row_of row.new ≡ with_bytes (row_of row.old) bytes.now }
-{
-    for byte in bytes {
-        row.push_byte(*byte);
-    }
-}
-
 // Puts the members in these bytes after the row's own, as many as a row can have.
 fn push_members(row: &mut Row, bytes: &[u8])
     ensures { row_of row.new ≡ with_members_in (row_of row.old) bytes.now }
@@ -91,7 +82,7 @@ pub fn read_row<B: Bank>(bytes: &[u8], row: &mut Row) -> Result<(), RowFault>
 {
     let start = members_start::<B>(bytes)?;
     row.restart(bytes[0]);
-    push_body(row, &bytes[1..start]);
+    row.push_bytes(&bytes[1..start]);
     push_members(row, &bytes[start..]);
     Ok(())
 }

@@ -3,6 +3,8 @@ ghost use Rattle.std.specs.Prelude.{◌≡◌, ◌≤◌, [], ◌∷◌, ◌++�
 
 use crate::member::Member;
 use std::alloc::{AllocError, Global};
+use std::error::Error;
+use std::fmt;
 
 // The most members that a row has, and the longest body.
 pub const MOST_MEMBERS: usize = 32;
@@ -22,8 +24,44 @@ pub struct Row {
     ghost member_room: { 32 ≤ vec_capacity members },
 }
 
+/// Why a constructor makes no row.
+#[derive(Clone, Copy, Debug, PartialEq, Eq)]
+pub enum RowError {
+    /// There are not 1 to 32 members.
+    MemberCount,
+    /// A value is above 63, so that no argument stands for it.
+    LargeValue,
+    /// There is no memory for the row.
+    OutOfMemory,
+}
+
+impl fmt::Display for RowError {
+    fn fmt<W: fmt::Write>(&self, f: &mut fmt::Formatter<W>) -> fmt::Result {
+        match self {
+            RowError::MemberCount => write!(f, "a row has 1 to 32 members"),
+            RowError::LargeValue => write!(f, "a value is above 63"),
+            RowError::OutOfMemory => write!(f, "there is no memory for a row"),
+        }
+    }
+}
+
+impl Error for RowError {}
+
+impl From<AllocError> for RowError {
+    ghost use Rattle.rows.specs.declared.row.RowError.TheVariants.{OutOfMemory};
+
+    ghost from_gives = { λ _ e. e ≡ OutOfMemory };
+
+    fn from(_cause: AllocError) -> RowError {
+        RowError::OutOfMemory
+    }
+}
+
 impl Row {
     ghost use Rattle.rows.specs.Bytes.{encode};
+    ghost use Rattle.rows.specs.NewRows.{Counted};
+    ghost use Rattle.rows.specs.Reading.{with_bytes};
+    ghost use Rattle.rows.specs.WrittenRows.{written_row};
     ghost use Rattle.rows.specs.Views.{row_of, blank, with_byte, with_member};
 
     // A row with this letter, no body and no members.
@@ -37,6 +75,19 @@ impl Row {
             body,
             members,
         })
+    }
+
+    /// A row with this letter and no members yet, whose body is the count of members to come and then these bytes, as far as a body goes.
+    pub fn with_count(heap: Global, letter: u8, count: usize, rest: &[u8]) -> Result<Row, RowError>
+        ensures { Counted count (with_bytes (with_byte (blank letter) count) rest.now) result }
+    {
+        if !(1..=MOST_MEMBERS).contains(&count) {
+            return Err(RowError::MemberCount);
+        }
+        let mut row = Row::new(heap, letter)?;
+        row.push_byte(count as u8);
+        row.push_bytes(rest);
+        Ok(row)
     }
 
     // Makes this the row with this letter, no body and no members; it keeps its memory.
@@ -58,6 +109,15 @@ impl Row {
         }
         self.body.push_reserved(byte);
         true
+    }
+
+    /// These bytes more of the body, as far as a body goes.
+    pub fn push_bytes(&mut self, bytes: &[u8])
+        ensures { row_of self.new ≡ with_bytes (row_of self.old) bytes.now }
+    {
+        for byte in bytes {
+            self.push_byte(*byte);
+        }
     }
 
     // One member more; false, and nothing changes, where there are as many as a row can have. (A bool, as above.)
@@ -105,5 +165,18 @@ impl Row {
         ensures { result ≡ length (encode (row_of self.now)) }
     {
         1 + self.body.len() + 4 * self.members.len()
+    }
+
+    /// The row as bytes, with the low byte of each voice. Where the voices are all below 256, these are the bytes that it is read from.
+    pub fn to_bytes(&self, heap: Global) -> Result<Vec<u8>, AllocError>
+        ensures { IfOk result (λ bytes. bytes.items ≡ written_row (row_of self.now)) }
+    {
+        let mut bytes = Vec::with_capacity(heap, self.bytes_len())?;
+        bytes.push(self.letter)?;
+        bytes.extend_from_slice(&self.body)?;
+        for member in self.members() {
+            bytes.extend_from_slice(&member.to_bytes())?;
+        }
+        Ok(bytes)
     }
 }

@@ -14,8 +14,8 @@ returns g c =
     let p = layout_passed m bs start (head_length m bs) c.in_ok-start.ensures in
     record {
       value = sym (layout_right m bs p.0);
-      after = row_read m bs start (row_of c.args.row.now) (row_of c.restart.new.self) (row_of c.push_body.new.row) (row_of c.push_members.new.row)
-          g.met.B.Bank.lawful p.0 p.1 c.restart.ensures c.push_body.ensures c.push_members.ensures;
+      after = row_read m bs start (row_of c.args.row.now) (row_of c.restart.new.self) (row_of c.push_bytes.new.self) (row_of c.push_members.new.row)
+          g.met.B.Bank.lawful p.0 p.1 c.restart.ensures c.push_bytes.ensures c.push_members.ensures;
     }
 
 pub returns-in_err-start-clause-value : goal.returns-in_err-start-clause-value
@@ -28,19 +28,19 @@ pub returns-in_err-start-clause-after : goal.returns-in_err-start-clause-after
 returns-in_err-start-clause-after g c =
     row_unread g.B.Bank.meaning c.args.bytes.now (head_length g.B.Bank.meaning c.args.bytes.now) c.in_err-start.field-0.0 (row_of c.args.row.now) c.in_err-start.ensures
 
-pub slice_bounds-push_body-count : goal.slice_bounds-push_body-count
-slice_bounds-push_body-count g c =
+pub slice_bounds-push_bytes-count : goal.slice_bounds-push_bytes-count
+slice_bounds-push_bytes-count g c =
     let p = layout_passed g.B.Bank.meaning c.args.bytes.now c.in_ok-start.start (head_length g.B.Bank.meaning c.args.bytes.now) c.in_ok-start.ensures in
     omega (arith, p.1)
 
-pub slice_bounds-push_body-start : goal.slice_bounds-push_body-start
-slice_bounds-push_body-start g c =
+pub slice_bounds-push_bytes-start : goal.slice_bounds-push_bytes-start
+slice_bounds-push_bytes-start g c =
     let p = layout_passed g.B.Bank.meaning c.args.bytes.now c.in_ok-start.start (head_length g.B.Bank.meaning c.args.bytes.now) c.in_ok-start.ensures in
     let one : 1 ≤ c.in_ok-start.start = omega (arith, p.1) in
     search rules
 
-pub slice_bounds-push_body-end : goal.slice_bounds-push_body-end
-slice_bounds-push_body-end g c =
+pub slice_bounds-push_bytes-end : goal.slice_bounds-push_bytes-end
+slice_bounds-push_bytes-end g c =
     let p = layout_passed g.B.Bank.meaning c.args.bytes.now c.in_ok-start.start (head_length g.B.Bank.meaning c.args.bytes.now) c.in_ok-start.ensures in
     let one : 1 ≤ c.in_ok-start.start = omega (arith, p.1) in
     search rules
