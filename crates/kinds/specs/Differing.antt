@@ -1,5 +1,5 @@
 -- The kind A, hex 41: all members' values differ.
-use Rattle.std.specs.Prelude.{ℕ, Bool, cond, not, ◌&&◌, ◌||◌, List, [], ◌∷◌, map, ◌==◌, nat_eq, unsigned_abs}
+use Rattle.std.specs.Prelude.{ℕ, Bool, cond, not, ◌&&◌, ◌||◌, List, [], ◌∷◌, map, length, pos, ◌==◌, nat_eq, unsigned_abs}
 use Rattle.sets.specs.Sets.{fixed, least, mask}
 use Rattle.std.specs.List.{list_all, list_any}
 use Rattle.rows.specs.declared.member.Member.{Member}
@@ -27,6 +27,14 @@ all_placed ms s = list_all (λ m. fixed (at s m)) ms && distinct (map (λ m. lea
 -- the values of the fixed members
 abbrev pub used : List Member → List ℕ → ℕ
 used ms s = mask 64 (λ v. list_any (λ m. fixed (at s m) && v == least (at s m)) ms)
+
+-- the row of this kind with these voices
+abbrev pub all_different_row : List ℕ → RowData
+all_different_row voices = record {
+  letter = 0x41;
+  body = length voices ∷ [];
+  members = map (λ v. record { voice = v; argument = pos 0 }) voices;
+}
 
 abbrev pub all_different : KindMeaning
 all_different = record {

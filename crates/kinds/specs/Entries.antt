@@ -1,5 +1,5 @@
 -- The kind E, hex 45: the result is the entry that the index names.
-use Rattle.std.specs.Prelude.{ℕ, zero, suc, Bool, true, false, cond, ◌&&◌, ◌||◌, List, [], ◌∷◌, length, ◌==◌, nat_lt, slice_index, unsigned_abs}
+use Rattle.std.specs.Prelude.{ℕ, zero, suc, Bool, true, false, cond, ◌&&◌, ◌||◌, List, [], ◌∷◌, map, length, pos, ◌==◌, nat_lt, slice_index, unsigned_abs}
 use Rattle.std.specs.Int.Signed.{non_neg}
 use Rattle.sets.specs.Sets.{has, fixed, least}
 use Rattle.std.specs.List.{list_all}
@@ -52,6 +52,14 @@ is_entry m = m.voice == 0 && (non_neg m.argument && nat_lt (unsigned_abs m.argum
 
 abbrev pub element_rule : RowData → Bool
 element_rule r = list_all is_entry r.members
+
+-- the row of this kind with these voices and entries
+abbrev pub element_row : ℕ → ℕ → List ℕ → RowData
+element_row index result entries = record {
+  letter = 0x45;
+  body = length entries ∷ index ∷ result ∷ [];
+  members = map (λ e. record { voice = 0; argument = pos e }) entries;
+}
 
 abbrev pub element : KindMeaning
 element = record {

@@ -1,9 +1,11 @@
 -- The kind C, hex 43: some literal is true.
-use Rattle.std.specs.Prelude.{ℕ, ◌-◌, Bool, false, cond, not, ◌&&◌, List, [], ◌∷◌, take, ◌==◌, nat_lt, unsigned_abs}
+use Rattle.std.specs.Prelude.{ℕ, ◌+◌, ◌-◌, Bool, false, cond, not, ◌&&◌, List, [], ◌∷◌, map, length, take, pos, ◌==◌, nat_lt, unsigned_abs}
 use Rattle.std.specs.Int.Signed.{non_neg}
 use Rattle.sets.specs.Sets.{sift}
 use Rattle.std.specs.List.{filter, list_all, list_any}
 use Rattle.rows.specs.declared.member.Member.{Member}
+use Rattle.kinds.specs.declared.clause.Literal.{Literal}
+use Rattle.kinds.specs.declared.clause.Literal.TheVariants.{Is, IsNot}
 use Rattle.rows.specs.Rows.{RowData, KindMeaning}
 use Rattle.rows.specs.Shared.{cuts, at, shaped, verdict, declared}
 use Rattle.rows.specs.declared.trace.Trace.TheVariants.{Settled, Open}
@@ -35,6 +37,24 @@ in_range m = non_neg m.argument && nat_lt (unsigned_abs m.argument) 128
 
 abbrev pub clause_rule : RowData → Bool
 clause_rule r = list_all in_range r.members
+
+-- a literal's value is one of the 64
+abbrev pub has_value : Literal → Bool
+has_value (Is voice value) = nat_lt value 64
+has_value (IsNot voice value) = nat_lt value 64
+
+-- the member that a literal is written as
+abbrev pub literal_member : Literal → Member
+literal_member (Is voice value) = record { voice = voice; argument = pos value }
+literal_member (IsNot voice value) = record { voice = voice; argument = pos (value + 64) }
+
+-- the row of this kind with these literals
+abbrev pub clause_row : List Literal → RowData
+clause_row literals = record {
+  letter = 0x43;
+  body = length literals ∷ [];
+  members = map literal_member literals;
+}
 
 abbrev pub clause : KindMeaning
 clause = record {

@@ -1,7 +1,7 @@
 -- The kind L, hex 4C: the sum of coefficient × value is at most a bound.
-use Rattle.std.specs.Prelude.{ℕ, ◌+◌, ◌*◌, Bool, cond, ◌&&◌, leb, List, [], ◌∷◌, ℤ, pos, ◌+ℤ◌, ◌-ℤ◌, ◌*ℤ◌, neg_ℤ, ◌≤ℤ◌, int_le, nat_le, unsigned_abs}
+use Rattle.std.specs.Prelude.{ℕ, ◌+◌, ◌*◌, Bool, cond, ◌&&◌, leb, List, [], ◌∷◌, map, length, ℤ, pos, ◌+ℤ◌, ◌-ℤ◌, ◌*ℤ◌, neg_ℤ, ◌≤ℤ◌, int_le, nat_le, unsigned_abs}
 use Rattle.std.specs.Int.Signed.{non_neg}
-use Rattle.std.specs.Int.{w32}
+use Rattle.std.specs.Int.{w32, to_le_bytes, cast_unsigned}
 use Rattle.std.proofs.Common.{to_z}
 use Rattle.sets.specs.Sets.{fixed, least, greatest}
 use Rattle.std.specs.List.{list_all}
@@ -46,6 +46,14 @@ linear_rule r = nat_le (unsigned_abs (bound r)) 3000000 && list_all (λ m. leb (
 pub record Near (n : ℕ) (z : ℤ) : Type 0 where
   pub above : z ≤ℤ pos n
   pub below : neg_ℤ (pos n) ≤ℤ z
+
+-- the row of this kind with this bound and these terms, each a voice and its coefficient
+abbrev pub linear_row : ℤ → List (ℕ × ℤ) → RowData
+linear_row bound terms = record {
+  letter = 0x4C;
+  body = length terms ∷ to_le_bytes w32 (cast_unsigned w32 bound);
+  members = map (λ t. record { voice = t.0; argument = t.1 }) terms;
+}
 
 abbrev pub linear : KindMeaning
 linear = record {

@@ -4,17 +4,19 @@ ghost use Rattle.sets.specs.Sets.{has, mask};
 ghost use Rattle.sets.specs.Placings.{changed};
 ghost use Rattle.std.specs.List.{list_all, list_any, count_by};
 ghost use Rattle.rows.specs.Shared.{at, cuts, distinct};
+ghost use Rattle.rows.specs.NewRows.{Constructs, if_few};
 ghost use Rattle.rows.specs.Views.{row_of};
-ghost use Rattle.kinds.specs.Differing.{spares, used, all_different};
+ghost use Rattle.kinds.specs.Differing.{spares, used, all_different, all_different_row};
 ghost use Rattle.kinds.specs.DifferingLaws.{all_different_lawful};
 
-use rows::narrowing::{are_declared, is_shaped, judge, keep_only, set_of};
 use rows::fault::Fault;
 use rows::kind::Kind;
 use rows::member::Member;
-use rows::row::Row;
+use rows::narrowing::{are_declared, is_shaped, judge, keep_only, set_of};
+use rows::row::{Row, RowError};
 use rows::trace::Trace;
 use sets::{ValueSet, is_fixed};
+use std::alloc::Global;
 
 // Whether the members' arguments are all 0.
 fn have_no_arguments(members: &[Member]) -> bool
@@ -83,6 +85,22 @@ fn shared_and_placed(members: &[Member], sets: &[ValueSet]) -> (ValueSet, ValueS
 
 // The kind of rows whose members' values all differ.
 pub struct AllDifferent;
+
+impl AllDifferent {
+    /// The row with these voices.
+    pub fn row(heap: Global, voices: &[u8]) -> Result<Row, RowError>
+        ensures { Constructs (if_few (all_different_row voices.now)) result }
+    {
+        let mut row = Row::with_count(heap, Self::LETTER, voices.len(), &[])?;
+        for voice in voices {
+            row.push_member(Member {
+                voice: u16::from(*voice),
+                argument: 0,
+            });
+        }
+        Ok(row)
+    }
+}
 
 impl Kind for AllDifferent {
     ghost meaning = { all_different };

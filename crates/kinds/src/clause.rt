@@ -3,18 +3,22 @@ ghost use Rattle.std.specs.Prelude.{◌≡◌, refl, false, take, position};
 ghost use Rattle.sets.specs.Sets.{mask};
 ghost use Rattle.sets.specs.Placings.{changed};
 ghost use Rattle.std.specs.List.{list_all, list_any};
+ghost use Rattle.rows.specs.NewRows.{Constructs, if_few};
+ghost use Rattle.rows.specs.Reading.{checked};
+ghost use Rattle.rows.specs.declared.row.RowError.TheVariants.{LargeValue};
 ghost use Rattle.rows.specs.Views.{row_of};
 ghost use Rattle.rows.specs.Shared.{cuts};
-ghost use Rattle.kinds.specs.Literals.{says, refuted, certain, stands, in_range, clause};
+ghost use Rattle.kinds.specs.Literals.{says, refuted, certain, stands, in_range, has_value, literal_member, clause_row, clause};
 ghost use Rattle.kinds.specs.LiteralsLaws.{clause_lawful};
 
-use rows::narrowing::{are_declared, is_shaped, judge, keep_only, set_of};
 use rows::fault::Fault;
 use rows::kind::Kind;
 use rows::member::Member;
-use rows::row::Row;
+use rows::narrowing::{are_declared, is_shaped, judge, keep_only, set_of};
+use rows::row::{Row, RowError};
 use rows::trace::Trace;
 use sets::{ValueSet, single};
+use std::alloc::Global;
 
 // The values that make a literal true.
 fn true_values(literal: Member) -> ValueSet
@@ -91,8 +95,67 @@ fn are_in_range(literals: &[Member]) -> bool
     literals.iter().all(|m| is_in_range(*m))
 }
 
+/// What a literal says of a voice.
+#[derive(Clone, Copy, Debug, PartialEq, Eq)]
+pub enum Literal {
+    /// The voice has this value.
+    Is { voice: u8, value: u8 },
+    /// The voice has another value.
+    IsNot { voice: u8, value: u8 },
+}
+
+impl Literal {
+    // Whether its value is one of the 64.
+    fn has_value(self) -> bool
+        ensures { result ≡ has_value self }
+    {
+        match self {
+            Literal::Is { value, .. } | Literal::IsNot { value, .. } => value < 64,
+        }
+    }
+
+    // The member that it is written as.
+    fn member(self) -> Member
+        ensures { result ≡ literal_member self }
+    {
+        match self {
+            Literal::Is { voice, value } => Member {
+                voice: u16::from(voice),
+                argument: i16::from(value),
+            },
+            Literal::IsNot { voice, value } => Member {
+                voice: u16::from(voice),
+                argument: i16::from(value) + 64,
+            },
+        }
+    }
+}
+
+// Whether all literals' values are among the 64.
+fn have_values(literals: &[Literal]) -> bool
+    ensures { result ≡ list_all has_value literals.now }
+{
+    literals.iter().all(|literal| literal.has_value())
+}
+
 // Rows of which some literal is true.
 pub struct Clause;
+
+impl Clause {
+    /// The row with these literals, of which one has to be true. A value above 63 is refused, whatever else is wrong.
+    pub fn row(heap: Global, literals: &[Literal]) -> Result<Row, RowError>
+        ensures { Constructs (checked (list_all has_value literals.now) LargeValue (if_few (clause_row literals.now))) result }
+    {
+        if !have_values(literals) {
+            return Err(RowError::LargeValue);
+        }
+        let mut row = Row::with_count(heap, Self::LETTER, literals.len(), &[])?;
+        for literal in literals {
+            row.push_member(literal.member());
+        }
+        Ok(row)
+    }
+}
 
 impl Kind for Clause {
     ghost meaning = { clause };
