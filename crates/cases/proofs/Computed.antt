@@ -16,7 +16,8 @@ use Rattle.stores.specs.ShelfLaws.{shelf}
 use Rattle.stores.proofs.Deciding.{bare_decided, shelf_decided}
 use Rattle.search.specs.Histories.{calls_in}
 use Rattle.search.proofs.OutcomeFacts.{Played, replay}
-use Rattle.cases.specs.Tables.{CaseStore, differing}
+use Rattle.cases.specs.CaseRows.{differing}
+use Rattle.cases.specs.Tables.{CaseStore}
 use Rattle.cases.specs.Tables.CaseStore.{shelf_of, bare}
 use Rattle.cases.specs.SearchCases.{SearchCase, SearchHolds, SearchHoldsOver, SearchCaseHolds}
 use Rattle.cases.specs.Searches.{searches, SearchesHold}

@@ -13,7 +13,7 @@ use Rattle.sets.specs.Sets.{mask, sift}
 use Rattle.sets.specs.Placings.{same}
 use Rattle.sets.proofs.Lists.{same_is}
 use Rattle.rows.specs.Shared.{cut}
-use Rattle.cases.specs.Turns.{TurnCase, TurnHolds, cases, TurnsHold}
+use Rattle.cases.specs.Turns.{TurnCase, TurnHolds, turns, TurnsHold}
 use Rattle.cases.specs.Turns.TurnCase.{turn_of, trace_of, verdict_of}
 
 -- ---- a list of which each element passes a test
@@ -58,9 +58,9 @@ comes_so (turn_of m r sets after) e = same_is (m.turn r sets) after e
 comes_so (trace_of m r sets trace) e = same_trace_is (m.trace r sets) trace e
 comes_so (verdict_of m r voices verdict) e = same_verdict_is (m.accepts r voices) verdict e
 
-all_come : list_all comes cases ≡ true
+all_come : list_all comes turns ≡ true
 unfolding ones count_trailing_zeros count_leading_zeros mask sift cut
 all_come = refl
 
 pub turns_hold : TurnsHold
-turns_hold = all_by comes TurnHolds comes_so cases all_come
+turns_hold = all_by comes TurnHolds comes_so turns all_come

@@ -1,3 +1,4 @@
+pub mod CaseRows
 pub mod Turns
 pub mod Tables
 pub mod SearchCases

@@ -1,4 +1,5 @@
--- Calls at both sides of each limit, and calls that more than one refusal fits, each of which the checker computes.
+-- The cases of calls at both sides of each limit, and of calls that more than one refusal fits, each of which the checker
+-- computes; and of histories that reach the limits of a table.
 use Rattle.std.specs.Prelude.{◌≡◌, ℕ, List, [], ◌∷◌, ◌++◌, length, replicate, All}
 use Rattle.rows.specs.Rows.{RowData}
 use Rattle.rows.specs.Bytes.{decode, total_bytes}
@@ -8,18 +9,19 @@ use Rattle.search.specs.Calls.{Table, begun, empty, Call, Answer, Judgement, jud
 use Rattle.search.specs.Calls.Call.{declare, post, solve, read, wipe}
 use Rattle.search.specs.Calls.Answer.{done, refused}
 use Rattle.search.specs.Calls.Judgement.{passes, declined}
-use Rattle.cases.specs.Tables.{differing, large, first_differ, table}
+use Rattle.cases.specs.CaseRows.{differing}
+use Rattle.cases.specs.Tables.{large, first_differ, table_with}
 use Rattle.cases.specs.SearchCases.{SearchCase, calls_over, SearchCaseHolds}
 
 -- ---- what a case says
 
--- what becomes of this call over this table of the bank A; how many bytes these rows have together; how long these bytes are
+-- the judgement of this call to this table of the bank A; how many bytes these rows have together; how long these bytes are
 pub data CallCase : Type 0 where
   judgement_of : Table → Call → Judgement → CallCase
   bytes_of : List RowData → ℕ → CallCase
   length_of : List ℕ → ℕ → CallCase
 
--- it comes to what is written there
+-- what the case says is what comes of it
 abbrev pub CallHolds : CallCase → Type 0
 CallHolds (judgement_of t c judgement) = judged differing t c ≡ judgement
 CallHolds (bytes_of rows bytes) = total_bytes rows ≡ bytes
@@ -28,36 +30,36 @@ CallHolds (length_of bs bytes) = length bs ≡ bytes
 -- ---- tables
 
 -- so many voices {1,2}, and no rows
-abbrev pub voices : ℕ → Table
-voices n = begun (replicate n 6) []
+abbrev pub with_voices : ℕ → Table
+with_voices n = begun (replicate n 6) []
 
 -- one voice, and so many rows of 6 bytes
-abbrev pub short_rows : ℕ → Table
-short_rows n = begun (6 ∷ []) (replicate n (decode differing (first_differ 1)))
+abbrev pub with_short_rows : ℕ → Table
+with_short_rows n = begun (6 ∷ []) (replicate n (decode differing (first_differ 1)))
 
 -- 32 voices; 62 rows of 130 bytes, and so many that say that the first k voices differ
 abbrev pub long_rows : ℕ → ℕ → List RowData
 long_rows n k = replicate 62 (decode differing (first_differ 32)) ++ replicate n (decode differing (first_differ k))
 
-abbrev pub long_table : ℕ → ℕ → Table
-long_table n k = begun (replicate 32 6) (long_rows n k)
+abbrev pub with_long_rows : ℕ → ℕ → Table
+with_long_rows n k = begun (replicate 32 6) (long_rows n k)
 
--- a table of no voices that stands here, with so many nodes opened
-abbrev pub standing : Place → ℕ → Table
-standing place opened = table [] [] place opened 0 0
+-- the table of no voices and no rows, with its search at this place and so many nodes opened
+abbrev pub empty_at : Place → ℕ → Table
+empty_at place opened = table_with [] [] place opened 0 0
 
 -- a search that is not over
-abbrev pub underway : Place
-underway = going (record { sets = 6 ∷ []; voice = 0; left = 4 }) []
+abbrev pub unfinished : Place
+unfinished = going (record { sets = 6 ∷ []; voice = 0; left = 4 }) []
 
 -- ---- rows of one member: its voice, and its argument's bytes
 
-abbrev pub one_member : ℕ → ℕ → ℕ → List ℕ
-one_member voice low high = 0x41 ∷ 1 ∷ 0x4D ∷ voice ∷ low ∷ high ∷ []
+abbrev pub one_member_row : ℕ → ℕ → ℕ → List ℕ
+one_member_row voice low high = 0x41 ∷ 1 ∷ 0x4D ∷ voice ∷ low ∷ high ∷ []
 
 -- two members, of voice 0 both
-abbrev pub repeated : List ℕ
-repeated = 0x41 ∷ 2 ∷ 0x4D ∷ 0 ∷ 0 ∷ 0 ∷ 0x4D ∷ 0 ∷ 0 ∷ 0 ∷ []
+abbrev pub voice_twice : List ℕ
+voice_twice = 0x41 ∷ 2 ∷ 0x4D ∷ 0 ∷ 0 ∷ 0 ∷ 0x4D ∷ 0 ∷ 0 ∷ 0 ∷ []
 
 -- ---- histories that lead to the limits
 
@@ -85,85 +87,85 @@ refusals =
     ∷ judgement_of empty (declare 0xFFFF_FFFF_FFFF_FFFF) passes
     ∷ judgement_of empty (declare 0) (declined 10)
     -- the 80th voice, and one more
-    ∷ judgement_of (voices 79) (declare 6) passes
-    ∷ judgement_of (voices 80) (declare 6) (declined 11)
+    ∷ judgement_of (with_voices 79) (declare 6) passes
+    ∷ judgement_of (with_voices 80) (declare 6) (declined 11)
     -- an empty set goes before one voice more
-    ∷ judgement_of (voices 80) (declare 0) (declined 10)
+    ∷ judgement_of (with_voices 80) (declare 0) (declined 10)
     -- Post, the letter: none is there, or one that the bank does not know
     ∷ judgement_of empty (post []) (declined 2)
-    ∷ judgement_of (voices 1) (post (0x42 ∷ 1 ∷ 0x4D ∷ 0 ∷ 0 ∷ 0 ∷ [])) (declined 2)
+    ∷ judgement_of (with_voices 1) (post (0x42 ∷ 1 ∷ 0x4D ∷ 0 ∷ 0 ∷ 0 ∷ [])) (declined 2)
     -- it goes before a count of 0
     ∷ judgement_of empty (post (0x42 ∷ 0 ∷ [])) (declined 2)
     -- the count, from 1 to 32: none is there, or it is 0
     ∷ judgement_of empty (post (0x41 ∷ [])) (declined 5)
     ∷ judgement_of empty (post (first_differ 0)) (declined 5)
     -- it is 1, 32 or 33
-    ∷ judgement_of (voices 80) (post (first_differ 1)) passes
-    ∷ judgement_of (voices 80) (post (first_differ 32)) passes
-    ∷ judgement_of (voices 80) (post (first_differ 33)) (declined 5)
+    ∷ judgement_of (with_voices 80) (post (first_differ 1)) passes
+    ∷ judgement_of (with_voices 80) (post (first_differ 32)) passes
+    ∷ judgement_of (with_voices 80) (post (first_differ 33)) (declined 5)
     -- it goes before a wrong length
     ∷ judgement_of empty (post (0x41 ∷ 33 ∷ [])) (declined 5)
     -- the length: a byte is missing, or one too many is there
-    ∷ judgement_of (voices 1) (post (0x41 ∷ 1 ∷ 0x4D ∷ 0 ∷ 0 ∷ [])) (declined 6)
-    ∷ judgement_of (voices 1) (post (first_differ 1 ++ (0 ∷ []))) (declined 6)
+    ∷ judgement_of (with_voices 1) (post (0x41 ∷ 1 ∷ 0x4D ∷ 0 ∷ 0 ∷ [])) (declined 6)
+    ∷ judgement_of (with_voices 1) (post (first_differ 1 ++ (0 ∷ []))) (declined 6)
     -- it goes before a wrong mark
     ∷ judgement_of empty (post (0x41 ∷ 1 ∷ 0x4C ∷ 0 ∷ 0 ∷ [])) (declined 6)
     -- the mark of each member: of the first, of the second
-    ∷ judgement_of (voices 1) (post (0x41 ∷ 1 ∷ 0x4C ∷ 0 ∷ 0 ∷ 0 ∷ [])) (declined 7)
-    ∷ judgement_of (voices 2) (post (0x41 ∷ 2 ∷ 0x4D ∷ 0 ∷ 0 ∷ 0 ∷ 0x4E ∷ 1 ∷ 0 ∷ 0 ∷ [])) (declined 7)
+    ∷ judgement_of (with_voices 1) (post (0x41 ∷ 1 ∷ 0x4C ∷ 0 ∷ 0 ∷ 0 ∷ [])) (declined 7)
+    ∷ judgement_of (with_voices 2) (post (0x41 ∷ 2 ∷ 0x4D ∷ 0 ∷ 0 ∷ 0 ∷ 0x4E ∷ 1 ∷ 0 ∷ 0 ∷ [])) (declined 7)
     -- it goes before a voice that is not declared
     ∷ judgement_of empty (post (0x41 ∷ 1 ∷ 0x4C ∷ 0 ∷ 1 ∷ 0 ∷ [])) (declined 7)
     -- a voice: the last that is declared, and one past it
-    ∷ judgement_of (voices 3) (post (one_member 2 0 0)) passes
-    ∷ judgement_of (voices 3) (post (one_member 3 0 0)) (declined 8)
+    ∷ judgement_of (with_voices 3) (post (one_member_row 2 0 0)) passes
+    ∷ judgement_of (with_voices 3) (post (one_member_row 3 0 0)) (declined 8)
     -- the kind's own rule: an argument of 1 or of -1, a voice that is there twice
-    ∷ judgement_of (voices 1) (post (one_member 0 1 0)) (declined 9)
-    ∷ judgement_of (voices 1) (post (one_member 0 0xFF 0xFF)) (declined 9)
-    ∷ judgement_of (voices 1) (post repeated) (declined 9)
+    ∷ judgement_of (with_voices 1) (post (one_member_row 0 1 0)) (declined 9)
+    ∷ judgement_of (with_voices 1) (post (one_member_row 0 0xFF 0xFF)) (declined 9)
+    ∷ judgement_of (with_voices 1) (post voice_twice) (declined 9)
     -- a voice that is not declared goes before a rule that is broken, and before the limits, and that rule before the limits
-    ∷ judgement_of (voices 1) (post (one_member 1 1 0)) (declined 8)
-    ∷ judgement_of empty (post repeated) (declined 8)
-    ∷ judgement_of (short_rows 120) (post (one_member 1 0 0)) (declined 8)
-    ∷ judgement_of (short_rows 120) (post repeated) (declined 9)
+    ∷ judgement_of (with_voices 1) (post (one_member_row 1 1 0)) (declined 8)
+    ∷ judgement_of empty (post voice_twice) (declined 8)
+    ∷ judgement_of (with_short_rows 120) (post (one_member_row 1 0 0)) (declined 8)
+    ∷ judgement_of (with_short_rows 120) (post voice_twice) (declined 9)
     -- the 120th row, and one more
-    ∷ judgement_of (short_rows 119) (post (first_differ 1)) passes
-    ∷ judgement_of (short_rows 120) (post (first_differ 1)) (declined 12)
+    ∷ judgement_of (with_short_rows 119) (post (first_differ 1)) passes
+    ∷ judgement_of (with_short_rows 120) (post (first_differ 1)) (declined 12)
     -- 8,192 bytes: 8,162 and 30 more, 8,162 and 34, 8,164 and 30
     ∷ bytes_of (long_rows 3 8) 8162
     ∷ length_of (first_differ 7) 30
-    ∷ judgement_of (long_table 3 8) (post (first_differ 7)) passes
-    ∷ judgement_of (long_table 3 8) (post (first_differ 8)) (declined 12)
+    ∷ judgement_of (with_long_rows 3 8) (post (first_differ 7)) passes
+    ∷ judgement_of (with_long_rows 3 8) (post (first_differ 8)) (declined 12)
     ∷ bytes_of (long_rows 4 6) 8164
-    ∷ judgement_of (long_table 4 6) (post (first_differ 7)) (declined 12)
+    ∷ judgement_of (with_long_rows 4 6) (post (first_differ 7)) (declined 12)
     -- Solve: a budget of 0, 1, 1,000,000 and 1,000,001, and of 0 where the search is over
     ∷ judgement_of empty (solve 0) (declined 13)
     ∷ judgement_of empty (solve 1) passes
     ∷ judgement_of empty (solve 1_000_000) passes
     ∷ judgement_of empty (solve 1_000_001) (declined 13)
-    ∷ judgement_of (standing none 1) (solve 0) (declined 13)
+    ∷ judgement_of (empty_at none 1) (solve 0) (declined 13)
     -- opened nodes and the budget, at most 1,000,000,000,000 together
-    ∷ judgement_of (standing underway 999_999_000_000) (solve 1_000_000) passes
-    ∷ judgement_of (standing underway 999_999_000_001) (solve 1_000_000) (declined 14)
-    ∷ judgement_of (standing underway 999_999_999_999) (solve 1) passes
-    ∷ judgement_of (standing underway 1_000_000_000_000) (solve 1) (declined 14)
+    ∷ judgement_of (empty_at unfinished 999_999_000_000) (solve 1_000_000) passes
+    ∷ judgement_of (empty_at unfinished 999_999_000_001) (solve 1_000_000) (declined 14)
+    ∷ judgement_of (empty_at unfinished 999_999_999_999) (solve 1) passes
+    ∷ judgement_of (empty_at unfinished 1_000_000_000_000) (solve 1) (declined 14)
     -- unless the search is over
-    ∷ judgement_of (standing none 1_000_000_000_000) (solve 1) passes
-    ∷ judgement_of (standing (found []) 1_000_000_000_000) (solve 1_000_000) passes
+    ∷ judgement_of (empty_at none 1_000_000_000_000) (solve 1) passes
+    ∷ judgement_of (empty_at (found []) 1_000_000_000_000) (solve 1_000_000) passes
     -- the budget goes before them
-    ∷ judgement_of (standing underway 1_000_000_000_000) (solve 1_000_001) (declined 13)
+    ∷ judgement_of (empty_at unfinished 1_000_000_000_000) (solve 1_000_001) (declined 13)
     -- Read: no result yet, or none
-    ∷ judgement_of (standing fresh 0) (read (7 ∷ 7 ∷ [])) (declined 15)
-    ∷ judgement_of (standing underway 1) (read (7 ∷ 7 ∷ [])) (declined 15)
-    ∷ judgement_of (standing none 3) (read (7 ∷ 7 ∷ [])) (declined 15)
+    ∷ judgement_of (empty_at fresh 0) (read (7 ∷ 7 ∷ [])) (declined 15)
+    ∷ judgement_of (empty_at unfinished 1) (read (7 ∷ 7 ∷ [])) (declined 15)
+    ∷ judgement_of (empty_at none 3) (read (7 ∷ 7 ∷ [])) (declined 15)
     -- a buffer that is too short, and those that are long enough
-    ∷ judgement_of (standing (found (1 ∷ 3 ∷ [])) 2) (read (7 ∷ [])) (declined 16)
-    ∷ judgement_of (standing (found (1 ∷ 3 ∷ [])) 2) (read (7 ∷ 7 ∷ [])) passes
-    ∷ judgement_of (standing (found []) 1) (read []) passes
+    ∷ judgement_of (empty_at (found (1 ∷ 3 ∷ [])) 2) (read (7 ∷ [])) (declined 16)
+    ∷ judgement_of (empty_at (found (1 ∷ 3 ∷ [])) 2) (read (7 ∷ 7 ∷ [])) passes
+    ∷ judgement_of (empty_at (found []) 1) (read []) passes
     -- Wipe passes always
-    ∷ judgement_of (voices 80) wipe passes
+    ∷ judgement_of (with_voices 80) wipe passes
     ∷ []
 
--- Each case comes to what is written there.
+-- Each case holds.
 abbrev pub RefusalsHold : Type 0
 RefusalsHold = All CallHolds refusals
 
@@ -171,11 +173,11 @@ RefusalsHold = All CallHolds refusals
 abbrev pub limits : List SearchCase
 limits =
     -- 80 voices
-    calls_over large (declares 80) (voices 80) []
-    ∷ calls_over large ((declare 6, refused 11) ∷ declares 80) (voices 80) []
+    calls_over large (declares 80) (with_voices 80) []
+    ∷ calls_over large ((declare 6, refused 11) ∷ declares 80) (with_voices 80) []
     -- 120 rows
-    ∷ calls_over large (posts 120 1 ++ declares 1) (short_rows 120) []
-    ∷ calls_over large ((post (first_differ 1), refused 12) ∷ posts 120 1 ++ declares 1) (short_rows 120) []
+    ∷ calls_over large (posts 120 1 ++ declares 1) (with_short_rows 120) []
+    ∷ calls_over large ((post (first_differ 1), refused 12) ∷ posts 120 1 ++ declares 1) (with_short_rows 120) []
     -- 8,192 bytes
     ∷ calls_over large full_history full_table []
     ∷ calls_over large ((post (first_differ 1), refused 12) ∷ full_history) full_table []

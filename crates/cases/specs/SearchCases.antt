@@ -6,7 +6,8 @@ use Rattle.stores.specs.Bare as stores
 use Rattle.stores.specs.ShelfLaws.{shelf}
 use Rattle.search.specs.Calls.{Table, Call, Answer}
 use Rattle.search.specs.Histories.{History}
-use Rattle.cases.specs.Tables.{CaseStore, differing}
+use Rattle.cases.specs.CaseRows.{differing}
+use Rattle.cases.specs.Tables.{CaseStore}
 use Rattle.cases.specs.Tables.CaseStore.{shelf_of, bare}
 
 -- calls over a store, of rows of a bank, each with its answer, the newest first; and the table and the keys that are to come of them
@@ -32,6 +33,6 @@ abbrev pub SearchHoldsOver : CaseStore → SearchCase → Type 0
 SearchHoldsOver (shelf_of words) c = SearchHolds shelf (record { held = []; room = words }) c
 SearchHoldsOver bare c = SearchHolds stores.bare tt c
 
--- so the case comes to what is written there
+-- over its store, the calls of the case come to its table and keys
 abbrev pub SearchCaseHolds : SearchCase → Type 0
 SearchCaseHolds c = SearchHoldsOver c.store c

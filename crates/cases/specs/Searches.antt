@@ -1,4 +1,4 @@
--- Searches from Make on, each of which the checker computes. A set is written as a number: {1,2} is 6, {1,3} is 10, {3,4} is 24. The newest call
+-- The cases of searches from Make on, each of which the checker computes. A set is written as a number: {1,2} is 6, {1,3} is 10, {3,4} is 24. The newest call
 -- stands first; the last three numbers of a table are the nodes opened, those exhausted and the keys lost.
 use Rattle.std.specs.Prelude.{ℕ, List, [], ◌∷◌, All}
 use Rattle.search.specs.Search.{Level, Place}
@@ -6,37 +6,38 @@ use Rattle.search.specs.Search.Place.{fresh, going}
 use Rattle.search.specs.Calls.{Table, Call, Answer}
 use Rattle.search.specs.Calls.Call.{declare, post, solve, read, wipe}
 use Rattle.search.specs.Calls.Answer.{done, refused, found, none, stopped, wrote}
-use Rattle.cases.specs.Tables.{large, first_differ, differ_2, differ_3, differ_5, table}
+use Rattle.cases.specs.CaseRows.{differs_2, differs_3, differs_5}
+use Rattle.cases.specs.Tables.{large, first_differ, table_with}
 use Rattle.cases.specs.Tables.CaseStore.{shelf_of, bare}
 use Rattle.cases.specs.SearchCases.{SearchCase, calls_over, SearchCaseHolds}
 
 -- ---- three voices {1,2} that differ
 
-abbrev pub three : List (Call × Answer)
-three = (post (first_differ 3), done) ∷ (declare 6, done) ∷ (declare 6, done) ∷ (declare 6, done) ∷ []
+abbrev pub three_posted : List (Call × Answer)
+three_posted = (post (first_differ 3), done) ∷ (declare 6, done) ∷ (declare 6, done) ∷ (declare 6, done) ∷ []
 
 abbrev pub three_at : Place → ℕ → ℕ → ℕ → Table
-three_at place opened exhausted lost = table (6 ∷ 6 ∷ 6 ∷ []) (differ_3 ∷ []) place opened exhausted lost
+three_at place opened exhausted lost = table_with (6 ∷ 6 ∷ 6 ∷ []) (differs_3 ∷ []) place opened exhausted lost
 
 -- the root, with its value 2 left to try
-abbrev pub three_halfway : Level
-three_halfway = record { sets = 6 ∷ 6 ∷ 6 ∷ []; voice = 0; left = 4 }
+abbrev pub three_root : Level
+three_root = record { sets = 6 ∷ 6 ∷ 6 ∷ []; voice = 0; left = 4 }
 
 -- ---- {1,2} {1,2} {3,4} {3,4} {3,4} that differ
 
-abbrev pub five : List (Call × Answer)
-five = (post (first_differ 5), done) ∷ (declare 24, done) ∷ (declare 24, done) ∷ (declare 24, done) ∷ (declare 6, done) ∷ (declare 6, done) ∷ []
+abbrev pub five_posted : List (Call × Answer)
+five_posted = (post (first_differ 5), done) ∷ (declare 24, done) ∷ (declare 24, done) ∷ (declare 24, done) ∷ (declare 6, done) ∷ (declare 6, done) ∷ []
 
 abbrev pub five_at : Place → ℕ → ℕ → ℕ → Table
-five_at place opened exhausted lost = table (6 ∷ 6 ∷ 24 ∷ 24 ∷ 24 ∷ []) (differ_5 ∷ []) place opened exhausted lost
+five_at place opened exhausted lost = table_with (6 ∷ 6 ∷ 24 ∷ 24 ∷ 24 ∷ []) (differs_5 ∷ []) place opened exhausted lost
 
 -- ---- {1,3} {1,3} that differ
 
-abbrev pub two : List (Call × Answer)
-two = (post (first_differ 2), done) ∷ (declare 10, done) ∷ (declare 10, done) ∷ []
+abbrev pub two_posted : List (Call × Answer)
+two_posted = (post (first_differ 2), done) ∷ (declare 10, done) ∷ (declare 10, done) ∷ []
 
 abbrev pub two_at : Place → ℕ → ℕ → ℕ → Table
-two_at place opened exhausted lost = table (10 ∷ 10 ∷ []) (differ_2 ∷ []) place opened exhausted lost
+two_at place opened exhausted lost = table_with (10 ∷ 10 ∷ []) (differs_2 ∷ []) place opened exhausted lost
 
 -- solved with 1 node, read too early, solved, solved again, read into a buffer that is too short and into a longer one
 abbrev pub two_read : List (Call × Answer)
@@ -47,7 +48,7 @@ two_read =
     ∷ (solve 9, found (1 ∷ 3 ∷ []))
     ∷ (read (7 ∷ 8 ∷ 9 ∷ []), refused 15)
     ∷ (solve 1, stopped)
-    ∷ two
+    ∷ two_posted
 
 -- ---- keys: a word for each voice, 0 where it is fixed, then the row's mark, 1 as it is open, and the values that its fixed voices have
 
@@ -66,35 +67,35 @@ root_key = 6 ∷ 6 ∷ 24 ∷ 24 ∷ 24 ∷ 1 ∷ 0 ∷ []
 abbrev pub searches : List SearchCase
 searches =
     -- three voices have no room at two values: over a large shelf, and over the bare store
-    calls_over large ((solve 9, none) ∷ three) (three_at Place.none 3 1 0) (three_key ∷ [])
-    ∷ calls_over bare ((solve 9, none) ∷ three) (three_at Place.none 3 1 1) []
+    calls_over large ((solve 9, none) ∷ three_posted) (three_at Place.none 3 1 0) (three_key ∷ [])
+    ∷ calls_over bare ((solve 9, none) ∷ three_posted) (three_at Place.none 3 1 1) []
     -- a budget of just as many nodes ends the search; one of 2 stops after the first child, and 1 more ends it with the same counts
-    ∷ calls_over large ((solve 3, none) ∷ three) (three_at Place.none 3 1 0) (three_key ∷ [])
-    ∷ calls_over large ((solve 2, stopped) ∷ three) (three_at (going three_halfway []) 2 0 0) []
-    ∷ calls_over large ((solve 1, none) ∷ (solve 2, stopped) ∷ three) (three_at Place.none 3 1 0) (three_key ∷ [])
+    ∷ calls_over large ((solve 3, none) ∷ three_posted) (three_at Place.none 3 1 0) (three_key ∷ [])
+    ∷ calls_over large ((solve 2, stopped) ∷ three_posted) (three_at (going three_root []) 2 0 0) []
+    ∷ calls_over large ((solve 1, none) ∷ (solve 2, stopped) ∷ three_posted) (three_at Place.none 3 1 0) (three_key ∷ [])
     -- both children of the root have one key: a store that holds it saves the search of the second
-    ∷ calls_over large ((solve 9, none) ∷ five) (five_at Place.none 5 2 0) (child_key ∷ root_key ∷ [])
-    ∷ calls_over bare ((solve 9, none) ∷ five) (five_at Place.none 7 3 3) []
+    ∷ calls_over large ((solve 9, none) ∷ five_posted) (five_at Place.none 5 2 0) (child_key ∷ root_key ∷ [])
+    ∷ calls_over bare ((solve 9, none) ∷ five_posted) (five_at Place.none 7 3 3) []
     -- room for one key is enough, and a word less is not
-    ∷ calls_over (shelf_of 8) ((solve 9, none) ∷ five) (five_at Place.none 5 2 1) (child_key ∷ [])
-    ∷ calls_over (shelf_of 7) ((solve 9, none) ∷ five) (five_at Place.none 7 3 3) []
+    ∷ calls_over (shelf_of 8) ((solve 9, none) ∷ five_posted) (five_at Place.none 5 2 1) (child_key ∷ [])
+    ∷ calls_over (shelf_of 7) ((solve 9, none) ∷ five_posted) (five_at Place.none 7 3 3) []
     -- the empty table has one placing, of no values, and it can be read
-    ∷ calls_over large ((solve 9, found []) ∷ []) (table [] [] (Place.found []) 1 0 0) []
-    ∷ calls_over bare ((solve 9, found []) ∷ []) (table [] [] (Place.found []) 1 0 0) []
-    ∷ calls_over large ((read [], wrote 0 []) ∷ (solve 1, found []) ∷ []) (table [] [] (Place.found []) 1 0 0) []
+    ∷ calls_over large ((solve 9, found []) ∷ []) (table_with [] [] (Place.found []) 1 0 0) []
+    ∷ calls_over bare ((solve 9, found []) ∷ []) (table_with [] [] (Place.found []) 1 0 0) []
+    ∷ calls_over large ((read [], wrote 0 []) ∷ (solve 1, found []) ∷ []) (table_with [] [] (Place.found []) 1 0 0) []
     -- the least placing of two voices: over a large shelf, and over the bare store
-    ∷ calls_over large ((solve 9, found (1 ∷ 3 ∷ [])) ∷ two) (two_at (Place.found (1 ∷ 3 ∷ [])) 2 0 0) []
-    ∷ calls_over bare ((solve 9, found (1 ∷ 3 ∷ [])) ∷ two) (two_at (Place.found (1 ∷ 3 ∷ [])) 2 0 0) []
+    ∷ calls_over large ((solve 9, found (1 ∷ 3 ∷ [])) ∷ two_posted) (two_at (Place.found (1 ∷ 3 ∷ [])) 2 0 0) []
+    ∷ calls_over bare ((solve 9, found (1 ∷ 3 ∷ [])) ∷ two_posted) (two_at (Place.found (1 ∷ 3 ∷ [])) 2 0 0) []
     -- it is told again and read with no node more, and a declined call alters nothing
     ∷ calls_over large two_read (two_at (Place.found (1 ∷ 3 ∷ [])) 2 0 0) []
     ∷ calls_over large ((declare 0, refused 10) ∷ two_read) (two_at (Place.found (1 ∷ 3 ∷ [])) 2 0 0) []
     -- another voice, and a wipe, begin again
-    ∷ calls_over large ((declare 6, done) ∷ two_read) (table (10 ∷ 10 ∷ 6 ∷ []) (differ_2 ∷ []) fresh 0 0 0) []
-    ∷ calls_over large ((wipe, done) ∷ two_read) (table [] [] fresh 0 0 0) []
+    ∷ calls_over large ((declare 6, done) ∷ two_read) (table_with (10 ∷ 10 ∷ 6 ∷ []) (differs_2 ∷ []) fresh 0 0 0) []
+    ∷ calls_over large ((wipe, done) ∷ two_read) (table_with [] [] fresh 0 0 0) []
     -- a row more begins the search again and empties the store
-    ∷ calls_over large ((post (first_differ 2), done) ∷ (solve 9, none) ∷ five) (table (6 ∷ 6 ∷ 24 ∷ 24 ∷ 24 ∷ []) (differ_5 ∷ differ_2 ∷ []) fresh 0 0 0) []
+    ∷ calls_over large ((post (first_differ 2), done) ∷ (solve 9, none) ∷ five_posted) (table_with (6 ∷ 6 ∷ 24 ∷ 24 ∷ 24 ∷ []) (differs_5 ∷ differs_2 ∷ []) fresh 0 0 0) []
     ∷ []
 
--- The calls of each case lead to what is written there.
+-- Each case holds.
 abbrev pub SearchesHold : Type 0
 SearchesHold = All SearchCaseHolds searches

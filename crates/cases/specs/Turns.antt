@@ -1,120 +1,32 @@
--- Cases of turns, traces and acceptance, each of which the checker computes. A set is written as a number: {1} is 2, {1,2} is 6, {2,3} is 12.
-use Rattle.std.specs.Prelude.{◌≡◌, ℕ, List, [], ◌∷◌, ℤ, pos, negsuc, Ok, Err, All}
+-- The cases of turns, traces and acceptance, each of which the checker computes. A set is written as a number: {1} is 2,
+-- {1,2} is 6, {2,3} is 12.
+use Rattle.std.specs.Prelude.{◌≡◌, ℕ, List, [], ◌∷◌, pos, negsuc, Ok, Err, All}
 use Rattle.rows.specs.declared.fault.Fault.TheVariants.{Undeclared, RuleBroken}
-use Rattle.rows.specs.declared.member.Member.{Member}
 use Rattle.rows.specs.declared.trace.Trace.{Trace}
 use Rattle.rows.specs.declared.trace.Trace.TheVariants.{Settled, Open}
-use Rattle.rows.specs.Rows.{RowData, Verdict, Meaning, alone}
-use Rattle.kinds.specs.Differing.{all_different}
-use Rattle.kinds.specs.Sums.{linear}
-use Rattle.kinds.specs.Literals.{clause}
-use Rattle.kinds.specs.Entries.{element}
+use Rattle.rows.specs.Rows.{RowData, Verdict, Meaning}
 use Rattle.kinds.specs.FourKinds.{four_kinds}
+use Rattle.cases.specs.CaseRows.{differing, sums, clauses, elements, differs_2, differs_3, differs_4, differs_twice, differs_argument, sum_5, sum_2, sum_1, sum_bounded, sum_twice, either_of, literal, either_twice, entries, entries_of_itself, entry_of, entry_with_voice, row_of_no_kind}
 
 -- ---- what a case says
 
--- What is asked of a bank about a row, and what it comes to: the sets that a turn on these sets leaves, the trace on them, the verdict with so many voices.
+-- For a bank and a row: the sets that a turn on these sets leaves, the trace on these sets, or the verdict with so many
+-- voices.
 pub data TurnCase : Type 0 where
   turn_of : Meaning → RowData → List ℕ → List ℕ → TurnCase
   trace_of : Meaning → RowData → List ℕ → Trace → TurnCase
   verdict_of : Meaning → RowData → ℕ → Verdict → TurnCase
 
--- it comes to what is written there
+-- the bank gives what the case says
 abbrev pub TurnHolds : TurnCase → Type 0
 TurnHolds (turn_of m r sets after) = m.turn r sets ≡ after
 TurnHolds (trace_of m r sets trace) = m.trace r sets ≡ trace
 TurnHolds (verdict_of m r voices verdict) = m.accepts r voices ≡ verdict
 
--- ---- banks of one kind each
-
-abbrev pub differing : Meaning
-differing = alone all_different
-
-abbrev pub sums : Meaning
-sums = alone linear
-
-abbrev pub clauses : Meaning
-clauses = alone clause
-
-abbrev pub elements : Meaning
-elements = alone element
-
--- ---- rows
-
-abbrev pub of : ℕ → ℤ → Member
-of v a = record { voice = v; argument = a }
-
-abbrev pub row : ℕ → List ℕ → List Member → RowData
-row l b ms = record { letter = l; body = b; members = ms }
-
-abbrev pub differs_2 : RowData
-differs_2 = row 0x41 (2 ∷ []) (of 0 (pos 0) ∷ of 1 (pos 0) ∷ [])
-
-abbrev pub differs_3 : RowData
-differs_3 = row 0x41 (3 ∷ []) (of 0 (pos 0) ∷ of 1 (pos 0) ∷ of 2 (pos 0) ∷ [])
-
-abbrev pub differs_4 : RowData
-differs_4 = row 0x41 (4 ∷ []) (of 0 (pos 0) ∷ of 1 (pos 0) ∷ of 2 (pos 0) ∷ of 3 (pos 0) ∷ [])
-
--- voice 0 twice
-abbrev pub differs_twice : RowData
-differs_twice = row 0x41 (2 ∷ []) (of 0 (pos 0) ∷ of 0 (pos 0) ∷ [])
-
-abbrev pub differs_arg : RowData
-differs_arg = row 0x41 (1 ∷ []) (of 0 (negsuc 0) ∷ [])
-
-abbrev pub sum_5 : RowData
-sum_5 = row 0x4C (5 ∷ 20 ∷ 0 ∷ 0 ∷ 0 ∷ []) (of 0 (pos 1) ∷ of 1 (pos 2) ∷ of 2 (pos 1) ∷ of 3 (pos 1) ∷ of 4 (pos 2) ∷ [])
-
--- coefficients -2 and -3, bound -5
-abbrev pub sum_2 : RowData
-sum_2 = row 0x4C (2 ∷ 0xFB ∷ 0xFF ∷ 0xFF ∷ 0xFF ∷ []) (of 0 (negsuc 1) ∷ of 1 (negsuc 2) ∷ [])
-
-abbrev pub sum_1 : ℤ → RowData
-sum_1 c = row 0x4C (1 ∷ 0 ∷ 0 ∷ 0 ∷ 0 ∷ []) (of 0 c ∷ [])
-
--- the bound's four bytes, low byte first
-abbrev pub bounded : ℕ → ℕ → ℕ → ℕ → RowData
-bounded a b c d = row 0x4C (1 ∷ a ∷ b ∷ c ∷ d ∷ []) (of 0 (pos 1) ∷ [])
-
--- voice 0 twice, with 1 and -2, and voice 1; bound -4
-abbrev pub sum_twice : RowData
-sum_twice = row 0x4C (3 ∷ 0xFC ∷ 0xFF ∷ 0xFF ∷ 0xFF ∷ []) (of 0 (pos 1) ∷ of 0 (negsuc 1) ∷ of 1 (pos 1) ∷ [])
-
--- voice 0 has 1, or voice 1 lacks 2
-abbrev pub either_of : RowData
-either_of = row 0x43 (2 ∷ []) (of 0 (pos 1) ∷ of 1 (pos 66) ∷ [])
-
-abbrev pub literal : ℤ → RowData
-literal a = row 0x43 (1 ∷ []) (of 0 a ∷ [])
-
--- voice 0 has 1, twice
-abbrev pub either_twice : RowData
-either_twice = row 0x43 (2 ∷ []) (of 0 (pos 1) ∷ of 0 (pos 1) ∷ [])
-
--- entries 4, 7, 4; index voice 0, result voice 1
-abbrev pub entries : RowData
-entries = row 0x45 (3 ∷ 0 ∷ 1 ∷ []) (of 0 (pos 4) ∷ of 0 (pos 7) ∷ of 0 (pos 4) ∷ [])
-
--- entries 1, 5; voice 0 is index and result
-abbrev pub entries_of_itself : RowData
-entries_of_itself = row 0x45 (2 ∷ 0 ∷ 0 ∷ []) (of 0 (pos 1) ∷ of 0 (pos 5) ∷ [])
-
-abbrev pub entry_of : ℤ → RowData
-entry_of a = row 0x45 (1 ∷ 0 ∷ 1 ∷ []) (of 0 a ∷ [])
-
--- an entry with a voice byte of 80
-abbrev pub entry_named : RowData
-entry_named = row 0x45 (1 ∷ 0 ∷ 1 ∷ []) (of 80 (pos 4) ∷ [])
-
--- the letter B
-abbrev pub of_no_kind : RowData
-of_no_kind = row 0x42 (1 ∷ []) (of 0 (pos 0) ∷ [])
-
 -- ---- the cases
 
-abbrev pub cases : List TurnCase
-cases =
+abbrev pub turns : List TurnCase
+turns =
     -- all different, a turn: each member in order, at its moment
     turn_of differing differs_3 (2 ∷ 6 ∷ 12 ∷ []) (2 ∷ 4 ∷ 8 ∷ [])
     -- two voices fixed at one value: the second is left none
@@ -133,7 +45,7 @@ cases =
     -- a voice that is there twice
     ∷ verdict_of differing differs_twice 1 (Err RuleBroken)
     -- an argument of -1
-    ∷ verdict_of differing differs_arg 1 (Err RuleBroken)
+    ∷ verdict_of differing differs_argument 1 (Err RuleBroken)
     -- linear, a turn that changes nothing
     ∷ turn_of sums sum_5 (8 ∷ 16 ∷ 32 ∷ 7 ∷ 7 ∷ []) (8 ∷ 16 ∷ 32 ∷ 7 ∷ 7 ∷ [])
     -- a turn with coefficients below 0
@@ -150,10 +62,10 @@ cases =
     ∷ verdict_of sums (sum_1 (negsuc 999)) 1 (Ok tt)
     ∷ verdict_of sums (sum_1 (negsuc 1000)) 1 (Err RuleBroken)
     -- a bound of 3,000,000, of 3,000,001, of -3,000,000, of -3,000,001
-    ∷ verdict_of sums (bounded 0xC0 0xC6 0x2D 0x00) 1 (Ok tt)
-    ∷ verdict_of sums (bounded 0xC1 0xC6 0x2D 0x00) 1 (Err RuleBroken)
-    ∷ verdict_of sums (bounded 0x40 0x39 0xD2 0xFF) 1 (Ok tt)
-    ∷ verdict_of sums (bounded 0x3F 0x39 0xD2 0xFF) 1 (Err RuleBroken)
+    ∷ verdict_of sums (sum_bounded 0xC0 0xC6 0x2D 0x00) 1 (Ok tt)
+    ∷ verdict_of sums (sum_bounded 0xC1 0xC6 0x2D 0x00) 1 (Err RuleBroken)
+    ∷ verdict_of sums (sum_bounded 0x40 0x39 0xD2 0xFF) 1 (Ok tt)
+    ∷ verdict_of sums (sum_bounded 0x3F 0x39 0xD2 0xFF) 1 (Err RuleBroken)
     -- a voice that is not declared goes before a coefficient past its limit
     ∷ verdict_of sums (sum_1 (pos 1001)) 0 (Err Undeclared)
     -- clause, a turn: one literal is not refuted
@@ -192,16 +104,16 @@ cases =
     ∷ verdict_of elements (entry_of (pos 64)) 2 (Err RuleBroken)
     ∷ verdict_of elements (entry_of (negsuc 0)) 2 (Err RuleBroken)
     -- an entry with a voice; a voice that is not declared goes before it
-    ∷ verdict_of elements entry_named 2 (Err RuleBroken)
-    ∷ verdict_of elements entry_named 1 (Err Undeclared)
+    ∷ verdict_of elements entry_with_voice 2 (Err RuleBroken)
+    ∷ verdict_of elements entry_with_voice 1 (Err Undeclared)
     -- the four kinds side by side: a row of each, and one with a letter of none
     ∷ verdict_of four_kinds differs_3 3 (Ok tt)
     ∷ trace_of four_kinds sum_5 (8 ∷ 16 ∷ 32 ∷ 7 ∷ 7 ∷ []) (Open 4000016)
     ∷ turn_of four_kinds either_of (1 ∷ 12 ∷ []) (1 ∷ 8 ∷ [])
     ∷ turn_of four_kinds entries (15 ∷ 48 ∷ []) (5 ∷ 16 ∷ [])
-    ∷ verdict_of four_kinds of_no_kind 1 (Err RuleBroken)
+    ∷ verdict_of four_kinds row_of_no_kind 1 (Err RuleBroken)
     ∷ []
 
--- Each case comes to what is written there.
+-- Each case holds.
 abbrev pub TurnsHold : Type 0
-TurnsHold = All TurnHolds cases
+TurnsHold = All TurnHolds turns
