@@ -1,4 +1,4 @@
 pub mod TurnsComputed
 pub mod Same
 pub mod Playing
-pub mod Computed
+pub mod CallsComputed

@@ -1,4 +1,4 @@
--- The cases, by one test that the checker computes.
+-- The cases of turns, traces and verdicts, by computation.
 use Rattle.std.proofs.Common.{◌≡◌, Bool, true, false, eqb, List, refl, ap}
 use Rattle.std.proofs.lemmas.Bool.{both_ways, eqb-true}
 use Rattle.std.proofs.lemmas.List.Sums.{AllPass-from_list_all}

@@ -1,4 +1,4 @@
-use Rattle.cases.proofs.Computed.{limits_reached}
+use Rattle.cases.proofs.CallsComputed.{limits_reached}
 use Rattle.cases.proofs.limits_reached.Goals as goal
 
 pub returns : goal.returns

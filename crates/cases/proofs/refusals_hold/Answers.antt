@@ -1,4 +1,4 @@
-use Rattle.cases.proofs.Computed.{refusals_hold}
+use Rattle.cases.proofs.CallsComputed.{refusals_hold}
 use Rattle.cases.proofs.refusals_hold.Goals as goal
 
 pub returns : goal.returns

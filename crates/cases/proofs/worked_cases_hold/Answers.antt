@@ -1,5 +1,5 @@
 use Rattle.cases.proofs.TurnsComputed.{turns_hold}
-use Rattle.cases.proofs.Computed.{searches_hold}
+use Rattle.cases.proofs.CallsComputed.{searches_hold}
 use Rattle.cases.proofs.worked_cases_hold.Goals as goal
 
 pub returns : goal.returns

@@ -1,4 +1,4 @@
--- The cases, by computation.
+-- The cases of searches, refusals and limits, by computation.
 use Rattle.std.proofs.Common.{◌≡◌, ℕ, Bool, true, ◌&&◌, eqb, List, [], length, refl}
 use Rattle.std.proofs.lemmas.Bool.{and_parts, eqb-true}
 use Rattle.std.specs.List.{list_all}
