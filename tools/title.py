@@ -420,12 +420,15 @@ def planned(sheet, program):
     """What the program `plan` prints of a sheet."""
     folder = os.path.join(os.path.dirname(os.path.abspath(__file__)), '..', 'crates', 'plan')
     command, place = ([program], None) if program else (['rt', 'run'], folder)
+    if not program and not os.path.exists(os.path.join(folder, 'out', 'plan')):
+        print('title.py: proving and building the program, which takes some minutes ..', file=sys.stderr, flush=True)
     try:
-        done = subprocess.run(command, cwd=place, input=sheet, stdout=subprocess.PIPE, check=False)
+        done = subprocess.run(command, cwd=place, input=sheet, stdout=subprocess.PIPE, stderr=subprocess.PIPE, check=False)
     except OSError as error:
         raise Failed(f'{command[0]} cannot be run: {error.strerror}') from error
     if done.returncode:
-        raise Failed(f'{" ".join(command)} ended with status {done.returncode}')
+        said = done.stderr.decode('utf-8', 'replace').splitlines()[-20:]
+        raise Failed('\n'.join([*said, f'{" ".join(command)} ended with status {done.returncode}']))
     return done.stdout
 
 
