@@ -17,13 +17,13 @@ call_of (Solve budget) = calls.Call.solve budget
 call_of (Read bytes) = calls.Call.read (vec_items bytes)
 call_of Wipe = calls.Call.wipe
 
--- a Solve wants memory for the values, and a Read for its copy of the bytes
-abbrev pub wants_memory : Call → Bool
-wants_memory (Declare set) = false
-wants_memory (Post bytes) = false
-wants_memory (Solve budget) = true
-wants_memory (Read bytes) = true
-wants_memory Wipe = false
+-- a Solve needs memory for the values, and a Read for its copy of the bytes
+abbrev pub needs_memory : Call → Bool
+needs_memory (Declare set) = false
+needs_memory (Post bytes) = false
+needs_memory (Solve budget) = true
+needs_memory (Read bytes) = true
+needs_memory Wipe = false
 
 abbrev pub answer_of : Answer → calls.Answer
 answer_of Done = calls.Answer.done
@@ -42,6 +42,6 @@ answers_of replies = map (λ r. answer_of r.answer) replies
 abbrev pub progresses_of : List Reply → List Progress
 progresses_of replies = map (λ r. r.progress) replies
 
--- how the search of a table stands
+-- how far the search of a table is
 abbrev pub progress_of : calls.Table → Progress
 progress_of t = record { outcome = outcome_of t.place; opened = t.opened; exhausted = t.exhausted }

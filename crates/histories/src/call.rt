@@ -1,36 +1,40 @@
-// The calls of a table and their answers, as values. An answer is printed as text.
+// The calls of a table and their answers, as values.
 ghost use Rattle.std.specs.Prelude.{Some};
 ghost use Rattle.std.specs.Fmt.{WritesOnOk};
 ghost use Rattle.histories.specs.Printed.{spaced, answer_text};
 
-use table::refusal::Refusal;
 use sets::ValueSet;
 use std::fmt;
+use table::refusal::Refusal;
 
+/// A call of a table, with what it is given.
 #[derive(Debug, PartialEq, Drop)]
 pub enum Call {
-    // one voice more, with this opening set
+    /// One voice more, with this opening set.
     Declare(ValueSet),
-    // one row more, from its bytes
+    /// One row more, from its bytes.
     Post(Vec<u8>),
-    // a search, with this budget
+    /// A search, with this budget in nodes.
     Solve(u64),
-    // what was found, written over a copy of these bytes
+    /// What was found, written over a copy of these bytes.
     Read(Vec<u8>),
     Wipe,
 }
 
+/// What a call returned. (No `Outcome` of a Solve, since what was found comes with its values here.)
 #[derive(Debug, PartialEq, Drop)]
 pub enum Answer {
-    // a Declare, a Post or a Wipe was accepted
+    /// A Declare, a Post or a Wipe was accepted.
     Done,
-    // a call was declined
+    /// The call was refused.
     Refused(Refusal),
-    // a Solve has found these values, or that there are none, or stopped at its budget (no `Outcome`, since found comes with its values here)
+    /// A Solve has found these values, one a voice.
     Found(Vec<u8>),
+    /// A Solve has found that there are none.
     None,
+    /// A Solve stopped at its budget.
     Stopped,
-    // a Read wrote so many values, and these are the bytes then
+    /// A Read wrote so many values, and these are the bytes then.
     Wrote(usize, Vec<u8>),
 }
 
@@ -44,13 +48,14 @@ fn write_bytes<W: fmt::Write>(f: &mut fmt::Formatter<W>, bytes: &[u8]) -> fmt::R
     Ok(())
 }
 
+// As `found 1 3`, or `refused 13`, or `wrote 2: 1 3 0`.
 impl fmt::Display for Answer {
     ghost output = { λ answer. Some (answer_text answer) };
 
     fn fmt<W: fmt::Write>(&self, f: &mut fmt::Formatter<W>) -> fmt::Result {
         match self {
             Answer::Done => f.write_str("done"),
-            Answer::Refused(refusal) => write!(f, "refused {refusal}"),
+            Answer::Refused(refusal) => write!(f, "refused {}", refusal.number()),
             Answer::Found(values) => {
                 f.write_str("found")?;
                 write_bytes(f, values)

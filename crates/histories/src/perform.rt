@@ -2,15 +2,15 @@
 ghost use Rattle.std.specs.Prelude.{◌≡◌, true, false, is_ok, IfOk, OnErr};
 ghost use Rattle.search.specs.Calls.{Call as CallOf};
 ghost use Rattle.table.specs.Shown.{CallDone, CallExtends, done_answer};
-ghost use Rattle.histories.specs.CallViews.{call_of, answer_of, wants_memory};
+ghost use Rattle.histories.specs.CallViews.{call_of, answer_of, needs_memory};
 
 use crate::call::{Answer, Call};
-use table::outcome::Outcome;
-use table::refusal::Refusal;
-use table::{MOST_VOICES, Table};
 use rows::bank::Bank;
 use std::alloc::{AllocError, Global};
 use stores::store::Store;
+use table::outcome::Outcome;
+use table::refusal::Refusal;
+use table::{MOST_VOICES, Table};
 
 // The answer of a Declare or a Post.
 fn done_or_refused(res: Result<(), Refusal>) -> Answer
@@ -29,7 +29,8 @@ fn perform_solve<B: Bank, S: Store>(
     budget: u64,
 ) -> Result<Answer, AllocError>
     ensures does { IfOk result (λ a. CallDone table.old (CallOf.solve budget) (answer_of a) table.new) }
-    ensures history { IfOk result (λ a. CallExtends table.old (CallOf.solve budget) (answer_of a) table.new) }
+    ensures history { IfOk result
+        (λ a. CallExtends table.old (CallOf.solve budget) (answer_of a) table.new) }
     ensures kept { OnErr result (table.new ≡ table.old) }
 {
     let mut values = vec![in heap; 0u8; MOST_VOICES]?;
@@ -51,8 +52,10 @@ fn perform_read<B: Bank, S: Store>(
     heap: Global,
     bytes: &[u8],
 ) -> Result<Answer, AllocError>
-    ensures does { IfOk result (λ a. CallDone table.now (CallOf.read bytes.now) (answer_of a) table.now) }
-    ensures history { IfOk result (λ a. CallExtends table.now (CallOf.read bytes.now) (answer_of a) table.now) }
+    ensures does { IfOk result
+        (λ a. CallDone table.now (CallOf.read bytes.now) (answer_of a) table.now) }
+    ensures history { IfOk result
+        (λ a. CallExtends table.now (CallOf.read bytes.now) (answer_of a) table.now) }
 {
     let mut buffer = bytes.to_vec(heap)?;
     match table.read(&mut buffer) {
@@ -61,16 +64,17 @@ fn perform_read<B: Bank, S: Store>(
     }
 }
 
-// Performs the call on the table. Only where the call wants memory there may be none; the table is as it was then.
+/// Performs the call on the table. Solve and Read need memory: where there is none, the table is as it was.
 pub fn perform<B: Bank, S: Store>(
     table: &mut Table<B, S>,
     heap: Global,
     call: &Call,
 ) -> Result<Answer, AllocError>
     ensures does { IfOk result (λ a. CallDone table.old (call_of call.now) (answer_of a) table.new) }
-    ensures history { IfOk result (λ a. CallExtends table.old (call_of call.now) (answer_of a) table.new) }
+    ensures history { IfOk result
+        (λ a. CallExtends table.old (call_of call.now) (answer_of a) table.new) }
     ensures kept { OnErr result (table.new ≡ table.old) }
-    ensures answers { wants_memory call.now ≡ false → is_ok result ≡ true }
+    ensures without_memory { needs_memory call.now ≡ false → is_ok result ≡ true }
 {
     match call {
         Call::Declare(set) => Ok(done_or_refused(table.declare(*set))),

@@ -1,23 +1,23 @@
 // Histories of calls played.
 ghost use Rattle.std.specs.Prelude.{IfOk};
-ghost use Rattle.histories.specs.CallViews.{calls_of, answers_of, progresses_of};
-ghost use Rattle.histories.specs.Replies.{Played, Agreed};
+ghost use Rattle.histories.specs.Replies.{Replied, RepliesAgree};
 
 use crate::call::Call;
 use crate::perform::perform;
-use crate::reply::{Reply, Progress};
-use table::Table;
+use crate::reply::{Progress, Reply};
 use rows::bank::Bank;
 use std::alloc::{AllocError, Global};
 use stores::store::Store;
+use table::Table;
 
-// Makes a table over the store and performs the calls on it, one after the other. Replies to every call.
+/// Makes a table over the store and performs the calls on it, one after the other. Returns a reply to every call.
 pub fn play<B: Bank, S: Store + Drop>(
     heap: Global,
     store: S,
     calls: &[Call],
 ) -> Result<Vec<Reply>, AllocError>
-    ensures { IfOk result (λ replies. Played S.Store.behaviour B.Bank.meaning (S.Store.state store) (calls_of calls.now) (answers_of replies.items) (progresses_of replies.items)) }
+    ensures { IfOk result (λ replies.
+        Replied S.Store.behaviour B.Bank.meaning (S.Store.state store) calls.now replies.items) }
 {
     let mut table: Table<B, S> = Table::make(heap, store)?;
     let mut replies = Vec::with_capacity(heap, calls.len())?;
@@ -31,7 +31,7 @@ pub fn play<B: Bank, S: Store + Drop>(
     Ok(replies)
 }
 
-// Plays two histories, each on a table of its own, over any banks and stores.
+/// Plays two histories, each on a table of its own, over any banks and stores.
 pub fn play_both<B: Bank, S: Store + Drop, C: Bank, R: Store + Drop>(
     heap: Global,
     store: S,
@@ -39,9 +39,14 @@ pub fn play_both<B: Bank, S: Store + Drop, C: Bank, R: Store + Drop>(
     other_store: R,
     other_calls: &[Call],
 ) -> Result<(Vec<Reply>, Vec<Reply>), AllocError>
-    ensures first { IfOk result (λ both. Played S.Store.behaviour B.Bank.meaning (S.Store.state store) (calls_of calls.now) (answers_of both.0.items) (progresses_of both.0.items)) }
-    ensures second { IfOk result (λ both. Played R.Store.behaviour C.Bank.meaning (R.Store.state other_store) (calls_of other_calls.now) (answers_of both.1.items) (progresses_of both.1.items)) }
-    ensures agreed { IfOk result (λ both. Agreed B.Bank.meaning (calls_of calls.now) (answers_of both.0.items) C.Bank.meaning (calls_of other_calls.now) (answers_of both.1.items)) }
+    ensures first { IfOk result (λ both.
+        Replied S.Store.behaviour B.Bank.meaning (S.Store.state store) calls.now both.0.items) }
+    ensures second { IfOk result (λ both.
+        Replied R.Store.behaviour C.Bank.meaning (R.Store.state other_store)
+        other_calls.now both.1.items) }
+    ensures agreed { IfOk result (λ both.
+        RepliesAgree B.Bank.meaning calls.now both.0.items
+        C.Bank.meaning other_calls.now both.1.items) }
 {
     let replies = play::<B, S>(heap, store, calls)?;
     let others = play::<C, R>(heap, other_store, other_calls)?;

@@ -1,17 +1,17 @@
-// What a played call hands back: its answer, and how the search stands then. A reply is printed as a line of text.
+// What a played call returns: its answer, and how far the search is then.
 ghost use Rattle.std.specs.Prelude.{◌≡◌, Some};
 ghost use Rattle.table.specs.Shown.{model};
 ghost use Rattle.histories.specs.CallViews.{progress_of};
 ghost use Rattle.histories.specs.Printed.{progress_text, reply_text};
 
 use crate::call::Answer;
-use table::outcome::Outcome;
-use table::Table;
 use rows::bank::Bank;
 use std::fmt;
 use stores::store::Store;
+use table::Table;
+use table::outcome::Outcome;
 
-// What a table's search has come to, how many nodes it has opened, and how many were exhausted since the store was emptied.
+/// How far a table's search is: what it has come to, how many nodes it has opened, and how many were exhausted since the store was emptied.
 #[derive(Clone, Copy, Debug, PartialEq, Eq)]
 pub struct Progress {
     pub outcome: Outcome,
@@ -20,7 +20,7 @@ pub struct Progress {
 }
 
 impl Progress {
-    // How the table's search stands.
+    /// How far the table's search is.
     pub fn of<B: Bank, S: Store>(table: &Table<B, S>) -> Progress
         ensures { result ≡ progress_of (model table.now 0) }
     {
@@ -32,6 +32,7 @@ impl Progress {
     }
 }
 
+// As `stopped 20 7`.
 impl fmt::Display for Progress {
     ghost output = { λ progress. Some (progress_text progress) };
 
@@ -45,13 +46,14 @@ impl fmt::Display for Progress {
     }
 }
 
+/// The answer to a call, and the progress of the search after it.
 #[derive(Debug, PartialEq, Drop)]
 pub struct Reply {
     pub answer: Answer,
-    // how the search stands after the call
     pub progress: Progress,
 }
 
+// As `refused 13 | stopped 20 7`.
 impl fmt::Display for Reply {
     ghost output = { λ reply. Some (reply_text reply) };
 
