@@ -12,10 +12,10 @@ use Rattle.search.specs.Histories.{History, declared_voices, posted_rows}
 use Rattle.search.specs.Results.{SolveMeans, Invariant}
 use Rattle.search.proofs.OverEvery.{invariant_holds, solve_keeps_budget, answers_hold, tables_given}
 use Rattle.sheets.specs.declared.fault.SheetFault.{SheetFault}
-use Rattle.sheets.specs.Reading.{SheetReading, read_sheet, table_after}
+use Rattle.sheets.specs.Reading.{SheetReading, read_sheet}
 use Rattle.sheets.specs.Reading.SheetReading.{accepted, refused}
 use Rattle.sheets.specs.Laws.{loaded_after}
-use Rattle.sheets.specs.Loading.{LoadAnswer, load_answer, reading_answer, LoadHistory}
+use Rattle.sheets.specs.Loading.{table_after, LoadAnswer, load_answer, reading_answer, LoadHistory}
 use Rattle.sheets.specs.Loading.LoadAnswer.{loaded, declined}
 use Rattle.job.specs.Texts.{table_text, report_text}
 use Rattle.job.specs.Planned.{most_sheet, JobHistory, Right, Planned}

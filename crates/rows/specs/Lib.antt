@@ -11,3 +11,5 @@ pub mod WrittenRows
 pub mod Shared
 pub mod Placed
 pub mod NewRows
+pub mod Limits
+pub mod Refusing

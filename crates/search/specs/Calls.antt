@@ -1,10 +1,12 @@
 -- A table, its calls with their refusals and answers, and what a call does.
-use Rattle.std.specs.Prelude.{◌≡◌, ℕ, zero, suc, ◌+◌, ◌^◌, ◌<◌, ◌≤◌, Bool, true, false, not, ◌&&◌, ◌||◌, ◌⊎◌, List, [], ◌∷◌, ◌++◌, length, drop, Ok, Err, ◌==◌, nat_le, nat_lt}
-use Rattle.rows.specs.Numbers.{number_of}
-use Rattle.rows.specs.Rows.{RowData, Meaning, Verdict}
-use Rattle.rows.specs.Bytes.{Bytes, head_length, lettered, counted, right_length, marked, decode, total_bytes}
+use Rattle.std.specs.Prelude.{◌≡◌, ℕ, zero, suc, ◌+◌, ◌^◌, ◌<◌, ◌≤◌, Bool, true, false, not, ◌&&◌, ◌||◌, ◌⊎◌, List, [], ◌∷◌, ◌++◌, length, drop, ◌==◌, nat_lt}
+use Rattle.rows.specs.Rows.{RowData, Meaning}
+use Rattle.rows.specs.Bytes.{Bytes, decode}
+pub use Rattle.rows.specs.Refusing.{declined_under, Judgement, judge}
+use Rattle.rows.specs.Refusing.{voice_reasons, row_reasons}
+use Rattle.rows.specs.Refusing.Judgement.{passes, declined}
 use Rattle.stores.specs.Behaviours.{Behaviour}
-use Rattle.search.specs.Limits.{most_voices, most_rows, most_bytes, most_budget, most_opened}
+use Rattle.search.specs.Limits.{most_budget, most_opened}
 use Rattle.search.specs.Search.{Place, Steps}
 
 -- ---- tables
@@ -75,39 +77,16 @@ Formed wipe = Unit {0}
 
 -- ---- refusals
 
--- a kind declines a row under this number
-abbrev pub declined_under : ℕ → Verdict → Bool
-declined_under n (Ok x) = false
-declined_under n (Err f) = number_of f == n
-
 -- The numbers under which a call may be declined, ascending, each with whether it fits.
 abbrev pub reasons : Meaning → Table → Call → List (ℕ × Bool)
-reasons m t (declare s) = (10, (s == 0)) ∷ (11, nat_le most_voices (length t.voices)) ∷ []
-reasons m t (post bs) =
-    (2, not (lettered m bs))
-    ∷ (5, not (counted bs))
-    ∷ (6, not (right_length m bs))
-    ∷ (7, not (marked (drop (head_length m bs) bs)))
-    ∷ (8, declined_under 8 (m.accepts (decode m bs) (length t.voices)))
-    ∷ (9, declined_under 9 (m.accepts (decode m bs) (length t.voices)))
-    ∷ (12, nat_le most_rows (length t.rows) || nat_lt most_bytes (total_bytes t.rows + length bs))
-    ∷ []
+reasons m t (declare s) = voice_reasons t.voices s
+reasons m t (post bs) = row_reasons m t.voices t.rows bs
 reasons m t (solve b) =
     (13, (b == 0) || nat_lt most_budget b)
     ∷ (14, not (over t.place) && nat_lt most_opened (t.opened + b))
     ∷ []
 reasons m t (read buffer) = (15, not (is_found t.place)) ∷ (16, nat_lt (length buffer) (length (result t.place))) ∷ []
 reasons m t wipe = []
-
--- a call passes, or is declined under a number
-pub data Judgement : Type 0 where
-  passes : Judgement
-  declined : ℕ → Judgement
-
--- by the first reason that fits: the smallest
-abbrev pub judge : List (ℕ × Bool) → Judgement
-judge [] = passes
-judge ((n, fits) ∷ others) = elim fits [ true ↦ declined n | false ↦ judge others ]
 
 -- what becomes of this call
 abbrev pub judged : Meaning → Table → Call → Judgement

@@ -1,17 +1,6 @@
--- The limits of a table.
+-- The limits of a search. Those of voices and rows are passed on.
 use Rattle.std.specs.Prelude.{ℕ}
-
--- how many voices a table has at most
-abbrev pub most_voices : ℕ
-most_voices = 80
-
--- how many rows it has at most
-abbrev pub most_rows : ℕ
-most_rows = 120
-
--- how many bytes its rows have together at most
-abbrev pub most_bytes : ℕ
-most_bytes = 8192
+pub use Rattle.rows.specs.Limits.{most_voices, most_rows, most_bytes}
 
 -- the largest budget of a Solve
 abbrev pub most_budget : ℕ

@@ -8,7 +8,8 @@ use Rattle.rows.specs.Views.{rows_of}
 use Rattle.rows.specs.declared.row.Row.{Row}
 use Rattle.rows.specs.Bytes.{Bytes, LaidOut, total_bytes}
 use Rattle.stores.specs.Stores.{View, distinct_keys}
-use Rattle.search.specs.Limits.{most_voices, most_rows, most_bytes, most_opened}
+use Rattle.rows.specs.Limits.{most_voices, most_rows, most_bytes}
+use Rattle.search.specs.Limits.{most_opened}
 use Rattle.search.specs.Propagation.{round, rounds, size}
 use Rattle.search.specs.Search.{Place}
 use Rattle.rows.specs.Placed.{AllHold, Least, Lawless}

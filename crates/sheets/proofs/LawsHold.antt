@@ -14,10 +14,10 @@ use Rattle.search.proofs.HistoryFacts.{fit}
 use Rattle.search.proofs.OverEvery.{invariant_holds, limits_hold}
 use Rattle.sheets.specs.declared.fault.SheetFault.{SheetFault}
 use Rattle.sheets.specs.Sheets.{sheet}
-use Rattle.sheets.specs.Reading.{SheetReading, read_sheet, table_after}
+use Rattle.sheets.specs.Reading.{SheetReading, read_sheet}
 use Rattle.sheets.specs.Reading.SheetReading.{accepted, refused}
 use Rattle.sheets.specs.Laws.{SheetLawsHold, declared_after, posted_after}
-use Rattle.sheets.specs.Loading.{load_answer, reading_answer, LoadLeaves, FillHistory, LoadHistory, LoadExtends, LoadBack, RecordsRead}
+use Rattle.sheets.specs.Loading.{load_answer, reading_answer, table_after, LoadLeaves, FillHistory, LoadHistory, LoadExtends, LoadBack, RecordsRead}
 use Rattle.sheets.proofs.Loaded.{ReadRight, read_right}
 use Rattle.sheets.proofs.Saved.{saved_loads}
 

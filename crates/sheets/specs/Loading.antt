@@ -12,7 +12,7 @@ use Rattle.sheets.specs.declared.fault.Cause.{Cause}
 use Rattle.sheets.specs.declared.fault.Layer.{Layer}
 use Rattle.sheets.specs.declared.fault.SheetFault.{SheetFault}
 use Rattle.sheets.specs.Causes.{cause_number, cause_layer, cause_offset}
-use Rattle.sheets.specs.Reading.{Item, SheetReading, read_sheet, table_after}
+use Rattle.sheets.specs.Reading.{Item, SheetReading, read_sheet}
 use Rattle.sheets.specs.Reading.Item.{last, voice, row, fault}
 use Rattle.sheets.specs.Reading.SheetReading.{accepted, refused}
 use Rattle.sheets.specs.Laws.{FirstFault, declared_after, posted_after}
@@ -35,6 +35,11 @@ reading_answer (accepted voices rows) = loaded
 reading_answer (refused number place layer) = declined number place layer
 
 -- ---- what a Load leaves
+
+-- the table that a Load leaves: its search has not begun; after a declined one it is empty
+abbrev pub table_after : SheetReading → Table
+table_after (accepted voices rows) = begun voices rows
+table_after (refused n place layer) = empty
 
 -- After the calls h, over a store that was in the state g when the table was made, the records of a
 -- sheet that comes to this have led to the table u and the state r: by its Declares and Posts, all

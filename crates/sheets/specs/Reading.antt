@@ -1,9 +1,8 @@
--- Reading a sheet: record after record, each judged as the call that it stands for, Declare or Post.
+-- Reading a sheet: record after record, each judged beside the voices and rows of the records before it.
 use Rattle.std.specs.Prelude.{ℕ, zero, suc, ◌+◌, ◌*◌, cond, List, [], ◌∷◌, ◌++◌, length, take, drop, ◌==◌, nat_lt}
 use Rattle.rows.specs.Rows.{RowData, Meaning}
 use Rattle.rows.specs.Bytes.{count_byte, head_length, lettered, decode}
-use Rattle.search.specs.Calls.{Table, begun, empty, Judgement, judged}
-use Rattle.search.specs.Calls.Call.{declare, post}
+use Rattle.rows.specs.Refusing.{Judgement, judge, voice_reasons, row_reasons}
 use Rattle.sheets.specs.declared.fault.Layer.{Layer}
 use Rattle.sheets.specs.declared.fault.Layer.TheVariants.{Sheet}
 use Rattle.sheets.specs.Sheets.{number_in}
@@ -19,7 +18,7 @@ pub data Item : Type 0 where
   row : List ℕ → Item
   fault : ℕ → ℕ → Layer → Item
 
--- a call that the table declines makes its record faulty
+-- a voice or a row that is declined makes its record faulty
 abbrev pub if_passes : Judgement → Item → Item
 if_passes Judgement.passes item = item
 if_passes (Judgement.declined n) item = fault n 0 (layer_of n)
@@ -34,14 +33,14 @@ abbrev pub voice_item : Meaning → List ℕ → List RowData → List ℕ → I
 voice_item m voices (r ∷ rows) bs = fault 3 0 Sheet
 voice_item m voices [] bs =
     cond (nat_lt (length bs) 8) (fault 6 0 Sheet)
-    (if_passes (judged m (begun voices []) (declare (number_in (take 8 bs)))) (voice (number_in (take 8 bs))))
+    (if_passes (judge (voice_reasons voices (number_in (take 8 bs)))) (voice (number_in (take 8 bs))))
 
 -- the bytes of the row at the front: as many as letter and count ask for, or all where they are fewer or the bank does not know the letter
 abbrev pub front_row : Meaning → List ℕ → List ℕ
 front_row m bs = cond (lettered m bs) (take (head_length m bs + 4 * count_byte bs) bs) bs
 
 abbrev pub row_item : Meaning → List ℕ → List RowData → List ℕ → Item
-row_item m voices rows bs = if_passes (judged m (begun voices rows) (post (front_row m bs))) (row (front_row m bs))
+row_item m voices rows bs = if_passes (judge (row_reasons m voices rows (front_row m bs))) (row (front_row m bs))
 
 -- what stands at the front of these bytes, after the records of these voices and rows
 abbrev pub item_at : Meaning → List ℕ → List RowData → List ℕ → Item
@@ -70,8 +69,3 @@ read_from m (suc n) at voices rows bs = read_on m (read_from m n) at voices rows
 
 abbrev pub read_sheet : Meaning → List ℕ → SheetReading
 read_sheet m bs = read_from m (suc (length bs)) 0 [] [] bs
-
--- the table that a Load leaves: its search has not begun; after a declined one it is empty
-abbrev pub table_after : SheetReading → Table
-table_after (accepted voices rows) = begun voices rows
-table_after (refused n place layer) = empty

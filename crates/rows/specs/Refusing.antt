@@ -1,0 +1,41 @@
+-- Why a voice or a row is declined beside the voices and rows that are there: by the smallest number that fits.
+use Rattle.std.specs.Prelude.{ℕ, ◌+◌, Bool, true, false, not, ◌||◌, List, [], ◌∷◌, length, drop, Ok, Err, ◌==◌, nat_le, nat_lt}
+use Rattle.rows.specs.Limits.{most_voices, most_rows, most_bytes}
+use Rattle.rows.specs.Numbers.{number_of}
+use Rattle.rows.specs.Rows.{RowData, Meaning, Verdict}
+use Rattle.rows.specs.Bytes.{head_length, lettered, counted, right_length, marked, decode, total_bytes}
+
+-- ---- reasons: the numbers of refusals, ascending, each with whether it fits
+
+-- a kind declines a row under this number
+abbrev pub declined_under : ℕ → Verdict → Bool
+declined_under n (Ok x) = false
+declined_under n (Err f) = number_of f == n
+
+-- of one voice more, with this opening set
+abbrev pub voice_reasons : List ℕ → ℕ → List (ℕ × Bool)
+voice_reasons voices set = (10, (set == 0)) ∷ (11, nat_le most_voices (length voices)) ∷ []
+
+-- of one row more, with these bytes
+abbrev pub row_reasons : Meaning → List ℕ → List RowData → List ℕ → List (ℕ × Bool)
+row_reasons m voices rows bs =
+    (2, not (lettered m bs))
+    ∷ (5, not (counted bs))
+    ∷ (6, not (right_length m bs))
+    ∷ (7, not (marked (drop (head_length m bs) bs)))
+    ∷ (8, declined_under 8 (m.accepts (decode m bs) (length voices)))
+    ∷ (9, declined_under 9 (m.accepts (decode m bs) (length voices)))
+    ∷ (12, nat_le most_rows (length rows) || nat_lt most_bytes (total_bytes rows + length bs))
+    ∷ []
+
+-- ---- judgements
+
+-- it passes, or is declined under a number
+pub data Judgement : Type 0 where
+  passes : Judgement
+  declined : ℕ → Judgement
+
+-- by the first reason that fits: the smallest
+abbrev pub judge : List (ℕ × Bool) → Judgement
+judge [] = passes
+judge ((n, fits) ∷ others) = elim fits [ true ↦ declined n | false ↦ judge others ]
