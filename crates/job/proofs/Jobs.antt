@@ -11,7 +11,7 @@ use Rattle.search.specs.Calls.Call.{solve}
 use Rattle.search.specs.Histories.{History, declared_voices, posted_rows}
 use Rattle.search.specs.Results.{SolveMeans, Invariant}
 use Rattle.search.proofs.OverEvery.{invariant_holds, solve_keeps_budget, answers_hold, tables_given}
-use Rattle.sheets.specs.declared.fault.SheetFault.{SheetFault}
+use Rattle.sheets.specs.declared.refusal.SheetRefusal.{SheetRefusal}
 use Rattle.sheets.specs.Reading.{SheetReading, read_sheet}
 use Rattle.sheets.specs.Reading.SheetReading.{accepted, refused}
 use Rattle.sheets.specs.Laws.{loaded_after}
@@ -74,7 +74,7 @@ module _ (b : Behaviour) (m : Meaning) (L : Laws m) (g : b.State) (sheet text : 
             (subst₂ (λ (vs : List ℕ) (rs : List RowData). SolveMeans m vs rs a) (sym given.0 ∙ ap (λ (x : Table). x.voices) e) (sym given.1 ∙ ap (λ (x : Table). x.rows) e) says_so);
       }
 
-  pub solved_job : (o : SheetReading) (r : Result (Unit {0}) SheetFault) (t u : Table) (v w : b.State) (a : Answer) → is_ok r ≡ true
+  pub solved_job : (o : SheetReading) (r : Result (Unit {0}) SheetRefusal) (t u : Table) (v w : b.State) (a : Answer) → is_ok r ≡ true
       → load_answer r ≡ reading_answer o → o ≡ read_sheet m sheet → t ≡ table_after o → LoadHistory b m g [] sheet o t v → Does b m t v (solve most_budget) a u w
       → text ≡ report_text (load_answer r) u → Planned b m g sheet text
   solved_job o (Err f) t u v w a k e f' l H D s = absurd (both_ways false refl k)
@@ -82,7 +82,7 @@ module _ (b : Behaviour) (m : Meaning) (L : Laws m) (g : b.State) (sheet text : 
   solved_job (accepted voices rows) (Ok y) t u v w a k e f l H D s =
       planned b m g sheet text (subst (λ (o : SheetReading). Shown b m g sheet o text) f (solved voices rows t u v w a l H D s))
 
-  pub declined_job : (o : SheetReading) (r : Result (Unit {0}) SheetFault) (t : Table) (v : b.State) → is_ok r ≡ false
+  pub declined_job : (o : SheetReading) (r : Result (Unit {0}) SheetRefusal) (t : Table) (v : b.State) → is_ok r ≡ false
       → load_answer r ≡ reading_answer o → o ≡ read_sheet m sheet → LoadHistory b m g [] sheet o t v → Invariant m t (b.view v)
       → text ≡ report_text (load_answer r) t → Planned b m g sheet text
   declined_job o (Ok y) t v k e f H z s = absurd (both_ways true k refl)

@@ -5,8 +5,8 @@ use Rattle.std.proofs.lemmas.List.{length-append}
 use Rattle.search.specs.Calls.{Table, result}
 use Rattle.table.specs.declared.outcome.Outcome.{Outcome}
 use Rattle.table.specs.declared.outcome.Outcome.TheVariants.{Stopped, Found, None}
-use Rattle.sheets.specs.declared.fault.Layer.{Layer}
-use Rattle.sheets.specs.declared.fault.Layer.TheVariants as layer
+use Rattle.sheets.specs.declared.refusal.Layer.{Layer}
+use Rattle.sheets.specs.declared.refusal.Layer.TheVariants as layer
 use Rattle.table.specs.Searches.{outcome_of}
 use Rattle.sheets.specs.Causes.{layer_name}
 use Rattle.sheets.specs.Loading.{LoadAnswer}

@@ -4,7 +4,7 @@ use Rattle.search.specs.Calls.{Table, result}
 use Rattle.table.specs.declared.outcome.Outcome.{Outcome}
 use Rattle.table.specs.Outcomes.{outcome_name}
 use Rattle.table.specs.Searches.{outcome_of}
-use Rattle.sheets.specs.declared.fault.Layer.{Layer}
+use Rattle.sheets.specs.declared.refusal.Layer.{Layer}
 use Rattle.sheets.specs.Causes.{layer_name}
 use Rattle.sheets.specs.Loading.{LoadAnswer}
 use Rattle.sheets.specs.Loading.LoadAnswer.{loaded, declined}

@@ -10,7 +10,7 @@ ghost use Rattle.job.specs.Planned.{most_sheet, Planned};
 use table::Table;
 use crate::report::{report, report_length};
 use rows::bank::Bank;
-use sheets::fault::SheetFault;
+use sheets::refusal::SheetRefusal;
 use sheets::load::load;
 use std::alloc::{AllocError, Global};
 use stores::store::Store;
@@ -27,7 +27,7 @@ const BUDGET: u64 = 1_000_000;
 // The report of the table, after a Load with this answer, in memory of its own. (Answer and table beside each other, as in report.)
 fn written_report<B: Bank, S: Store>(
     heap: Global,
-    answer: Result<(), SheetFault>,
+    answer: Result<(), SheetRefusal>,
     table: &Table<B, S>,
 ) -> Result<Vec<u8>, AllocError>
     ensures { IfOk result (λ text. text.items ≡ report_text (load_answer answer) (model table.now 0)) }

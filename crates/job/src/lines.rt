@@ -5,7 +5,7 @@ ghost use Rattle.sheets.specs.Causes.{cause_number, cause_layer};
 ghost use Rattle.job.specs.Texts.{line_end, refused_line, outcome_line, count_line, value_line, value_lines};
 
 use table::outcome::Outcome;
-use sheets::fault::SheetFault;
+use sheets::refusal::SheetRefusal;
 use rows::writer::Writer;
 
 // The end of a line.
@@ -16,7 +16,7 @@ fn put_end(writer: &mut Writer)
 }
 
 // Why a sheet was declined.
-pub(crate) fn put_refusal(writer: &mut Writer, fault: SheetFault)
+pub(crate) fn put_refusal(writer: &mut Writer, fault: SheetRefusal)
     ensures { Wrote (refused_line (cause_number fault.cause) fault.place (cause_layer fault.cause)) writer.old writer.new }
 {
     writer.put(b"refused ");

@@ -12,7 +12,7 @@ use crate::lines::{put_count, put_outcome, put_refusal, put_values};
 use table::refusal::Refusal;
 use table::{MOST_VOICES, Table};
 use rows::bank::Bank;
-use sheets::fault::SheetFault;
+use sheets::refusal::SheetRefusal;
 use stores::store::Store;
 use rows::writer::Writer;
 
@@ -40,7 +40,7 @@ fn write_table<B: Bank, S: Store>(table: &Table<B, S>, writer: &mut Writer)
 }
 
 fn write_report<B: Bank, S: Store>(
-    answer: Result<(), SheetFault>,
+    answer: Result<(), SheetRefusal>,
     table: &Table<B, S>,
     writer: &mut Writer,
 )
@@ -54,7 +54,7 @@ fn write_report<B: Bank, S: Store>(
 
 // How long the report is: it is written into no memory.
 pub fn report_length<B: Bank, S: Store>(
-    answer: Result<(), SheetFault>,
+    answer: Result<(), SheetRefusal>,
     table: &Table<B, S>,
 ) -> usize
     ensures { result ≡ length (report_text (load_answer answer) (model table.now 0)) }
@@ -66,7 +66,7 @@ pub fn report_length<B: Bank, S: Store>(
 
 // Writes at the front of `out` what `plan` prints of the table, after a Load with this answer, and answers how long it is; bytes beyond it stay.
 pub fn report<B: Bank, S: Store>(
-    answer: Result<(), SheetFault>,
+    answer: Result<(), SheetRefusal>,
     table: &Table<B, S>,
     out: &mut [u8],
 ) -> Result<usize, Refusal>

@@ -12,7 +12,7 @@ use Rattle.search.specs.Results.{Limited, Invariant}
 use Rattle.search.proofs.AnyStore.{history_any}
 use Rattle.search.proofs.HistoryFacts.{fit}
 use Rattle.search.proofs.OverEvery.{invariant_holds, limits_hold}
-use Rattle.sheets.specs.declared.fault.SheetFault.{SheetFault}
+use Rattle.sheets.specs.declared.refusal.SheetRefusal.{SheetRefusal}
 use Rattle.sheets.specs.Sheets.{sheet}
 use Rattle.sheets.specs.Reading.{SheetReading, read_sheet}
 use Rattle.sheets.specs.Reading.SheetReading.{accepted, refused}
@@ -73,21 +73,21 @@ module _ (b : Behaviour) (m : Meaning) where
 
 -- From the table t and the state s: a Wipe, to the state w; then the records were read, to the table x and the state y; and where the sheet was declined, a Wipe more, to
 -- the table u and the state r.
-pub record Loaded (b : Behaviour) (m : Meaning) (bs : List ℕ) (s w : b.State) (x : Table) (y : b.State) (res : Result (Unit {0}) SheetFault) (u : Table) (r : b.State) : Type 0 where
+pub record Loaded (b : Behaviour) (m : Meaning) (bs : List ℕ) (s w : b.State) (x : Table) (y : b.State) (res : Result (Unit {0}) SheetRefusal) (u : Table) (r : b.State) : Type 0 where
   pub wiped : b.empties s w
   pub read : RecordsRead b m bs w x y (read_sheet m bs) res
   pub declined : is_err res ≡ true → (u ≡ empty) × b.empties y r
   pub accepted : is_err res ≡ false → (u ≡ x) × (r ≡ y)
 
-module _ (b : Behaviour) (m : Meaning) (L : Laws m) (bs : List ℕ) {s w y r : b.State} {x u : Table} {res : Result (Unit {0}) SheetFault} (l : Loaded b m bs s w x y res u r) where
-  answer_by : {o : SheetReading} (res' : Result (Unit {0}) SheetFault) → RecordsRead b m bs w x y o res' → load_answer res' ≡ reading_answer o
+module _ (b : Behaviour) (m : Meaning) (L : Laws m) (bs : List ℕ) {s w y r : b.State} {x u : Table} {res : Result (Unit {0}) SheetRefusal} (l : Loaded b m bs s w x y res u r) where
+  answer_by : {o : SheetReading} (res' : Result (Unit {0}) SheetRefusal) → RecordsRead b m bs w x y o res' → load_answer res' ≡ reading_answer o
   answer_by res' (RecordsRead.ended voices rows e f) = refl
   answer_by res' (RecordsRead.faulted cause place first e f) = refl
 
   pub answers : load_answer res ≡ reading_answer (read_sheet m bs)
   answers = answer_by res l.read
 
-  table_by : {o : SheetReading} (res' : Result (Unit {0}) SheetFault) → RecordsRead b m bs w x y o res' → (is_err res' ≡ true → (u ≡ empty) × b.empties y r)
+  table_by : {o : SheetReading} (res' : Result (Unit {0}) SheetRefusal) → RecordsRead b m bs w x y o res' → (is_err res' ≡ true → (u ≡ empty) × b.empties y r)
       → (is_err res' ≡ false → (u ≡ x) × (r ≡ y)) → u ≡ table_after o
   table_by res' (RecordsRead.ended voices rows e f) d a = (a refl).0 ∙ e
   table_by res' (RecordsRead.faulted cause place first e f) d a = (d refl).0
@@ -96,7 +96,7 @@ module _ (b : Behaviour) (m : Meaning) (L : Laws m) (bs : List ℕ) {s w y r : b
   led e H = (H, none_lost b m H e)
 
   -- after the calls h, which led to the empty table that the records fill
-  filled_by : {o : SheetReading} (res' : Result (Unit {0}) SheetFault) → RecordsRead b m bs w x y o res' → (is_err res' ≡ true → (u ≡ empty) × b.empties y r)
+  filled_by : {o : SheetReading} (res' : Result (Unit {0}) SheetRefusal) → RecordsRead b m bs w x y o res' → (is_err res' ≡ true → (u ≡ empty) × b.empties y r)
       → (is_err res' ≡ false → (u ≡ x) × (r ≡ y)) → (g : b.State) (h : List (Call × Answer)) → Emptied h → History b m g h empty w → FillHistory b m g h bs o u r
   filled_by res' (RecordsRead.ended voices rows e f) d a g h z H =
       led (emptied_posted (declared_after h voices) rows (emptied_declared h voices z))

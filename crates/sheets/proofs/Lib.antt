@@ -1,5 +1,5 @@
 pub mod Numbers
-pub mod Items
+pub mod Records
 pub mod Loaded
 pub mod Steps
 pub mod Saved

@@ -17,14 +17,14 @@ use Rattle.search.specs.Histories.{History}
 use Rattle.search.proofs.AnyStore.{history_any}
 use Rattle.search.proofs.HistoryFacts.{none_fits, fit}
 use Rattle.search.proofs.OverEvery.{limits_hold}
-use Rattle.sheets.specs.declared.fault.Layer.{Layer}
+use Rattle.sheets.specs.declared.refusal.Layer.{Layer}
 use Rattle.sheets.specs.Sheets.{low_first, number_in, voice_record, voice_records, row_records, records, sheet}
-use Rattle.sheets.specs.Reading.{Item, item_at, SheetReading, read_on, read_from, read_sheet}
-use Rattle.sheets.specs.Reading.Item.{last, voice, row, fault}
+use Rattle.sheets.specs.Reading.{RecordReading, read_record, SheetReading, read_on, read_from, read_sheet}
+use Rattle.sheets.specs.Reading.RecordReading.{last, voice, row, fault}
 use Rattle.sheets.specs.Reading.SheetReading.{accepted, refused}
 use Rattle.sheets.specs.Laws.{Holdable, FirstFault, declared_after, posted_after}
 use Rattle.sheets.proofs.Numbers.{low_first_of_number, number_fits}
-use Rattle.sheets.proofs.Items.{VoiceHere, RowHere, voice_here, row_here, last_here}
+use Rattle.sheets.proofs.Records.{VoiceHere, RowHere, voice_here, row_here, last_here}
 use Rattle.sheets.specs.Loading.{Fills}
 
 -- ---- one record more
@@ -163,7 +163,7 @@ module _ (m : Meaning) (L : Laws m) (whole : List ℕ) where
 
   -- the first fault
   abbrev pub fault_at : (at : ℕ) (voices : List ℕ) (rows : List RowData) (bs : List ℕ) (k o : ℕ) (layer : Layer) → BareRead m whole at voices rows bs
-      → item_at m voices rows bs ≡ fault k o layer → FirstFault m whole k (at + o) layer
+      → read_record m voices rows bs ≡ fault k o layer → FirstFault m whole k (at + o) layer
   fault_at at voices rows bs k o layer R f = record {
     voices = voices;
     rows = rows;
@@ -182,7 +182,7 @@ module _ (m : Meaning) (L : Laws m) (whole : List ℕ) where
 
   paired_onto : (n at : ℕ) (voices : List ℕ) (rows : List RowData) (bs : List ℕ) → length bs < suc n → BareRead m whole at voices rows bs
       → ((at : ℕ) (voices : List ℕ) (rows : List RowData) (bs : List ℕ) → length bs < n → BareRead m whole at voices rows bs → ReadRight (read_from m n at voices rows bs))
-      → (i : Item) → item_at m voices rows bs ≡ i → ReadRight (read_on m (read_from m n) at voices rows bs i)
+      → (i : RecordReading) → read_record m voices rows bs ≡ i → ReadRight (read_on m (read_from m n) at voices rows bs i)
   paired_onto n at voices rows bs l R next last f =
       (holdable R.fills, ap (λ (x : List ℕ). records voices rows ++ x) (sym (last_here m voices rows bs f)) ∙ R.whole_is)
   paired_onto n at voices rows bs l R next (voice s) f =
@@ -196,7 +196,7 @@ module _ (m : Meaning) (L : Laws m) (whole : List ℕ) where
 
   read_right_from : (n at : ℕ) (voices : List ℕ) (rows : List RowData) (bs : List ℕ) → length bs < n → BareRead m whole at voices rows bs → ReadRight (read_from m n at voices rows bs)
   read_right_from zero at voices rows bs l R = absurd (omega (arith, l))
-  read_right_from (suc n) at voices rows bs l R = paired_onto n at voices rows bs l R (read_right_from n) (item_at m voices rows bs) refl
+  read_right_from (suc n) at voices rows bs l R = paired_onto n at voices rows bs l R (read_right_from n) (read_record m voices rows bs) refl
 
   pub read_right : Bytes whole → ReadRight (read_sheet m whole)
   read_right f = read_right_from (suc (length whole)) 0 [] [] whole (omega arith) (none_read bare m whole tt f)

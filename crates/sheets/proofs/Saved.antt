@@ -14,12 +14,12 @@ use Rattle.rows.specs.Placed.{AllAccepted}
 use Rattle.search.specs.Results.{AllLaidOut}
 use Rattle.table.proofs.Judging.{voice_fits}
 use Rattle.sheets.specs.Sheets.{low_first, number_in, voice_record, voice_records, row_records, sheet}
-use Rattle.sheets.specs.Reading.{if_passes, front_row, item_at, read_on, read_from, read_sheet}
-use Rattle.sheets.specs.Reading.Item.{voice, row}
+use Rattle.sheets.specs.Reading.{if_passes, front_row, read_record, read_on, read_from, read_sheet}
+use Rattle.sheets.specs.Reading.RecordReading.{voice, row}
 use Rattle.sheets.specs.Reading.SheetReading.{accepted}
 use Rattle.sheets.specs.Laws.{Holdable}
 use Rattle.sheets.proofs.Numbers.{number_of_low_first, length_low_first}
-use Rattle.sheets.proofs.Items.{whole_voice, at_voice, at_row}
+use Rattle.sheets.proofs.Records.{whole_voice, at_voice, at_row}
 
 -- ---- one row of many
 
@@ -72,9 +72,9 @@ module _ (m : Meaning) (L : Laws m) where
       (and_from (ltb 0 (length bs)) (m.known r.letter) (lt-ltb 0 (length bs) (omega (arith, two, length-append (encode r) others))) known)
       ∙ take_at (encode r) others (head_length m bs + 4 * count_byte bs) long
 
-  row_item_here : (voices : List ℕ) (rows : List RowData) (r : RowData) (rest : List RowData) (others : List ℕ) → Holdable m voices (rows ++ (r ∷ rest))
-      → item_at m voices rows (encode r ++ others) ≡ row (encode r)
-  row_item_here voices rows r rest others H =
+  read_row_here : (voices : List ℕ) (rows : List RowData) (r : RowData) (rest : List RowData) (others : List ℕ) → Holdable m voices (rows ++ (r ∷ rest))
+      → read_record m voices rows (encode r ++ others) ≡ row (encode r)
+  read_row_here voices rows r rest others H =
       let o = laid_out_at m rows r rest H.limited.laid_out in
       let free = or_parts (eqb r.letter 0x56) (eqb r.letter 0x5A || eqb r.letter 0x4D) (L.lettered r.letter o.shape.known_letter).free in
       let free-end = or_parts (eqb r.letter 0x5A) (eqb r.letter 0x4D) free.1 in
@@ -95,15 +95,15 @@ module _ (m : Meaning) (L : Laws m) where
       let back = ((bytes_both_ways m).0 r (laid_out_at m rows r rest H.limited.laid_out)).2 in
       let more = append_assoc rows (r ∷ []) rest in
       ap (read_from m (suc n) at voices rows) split
-      ∙ ap (read_on m (read_from m n) at voices rows (encode r ++ others)) (row_item_here voices rows r rest others H)
+      ∙ ap (read_on m (read_from m n) at voices rows (encode r ++ others)) (read_row_here voices rows r rest others H)
       ∙ ap (read_from m n (at + length (encode r)) voices (rows ++ (decode m (encode r) ∷ []))) (drop_at (encode r) others (length (encode r)) refl)
       ∙ ap (λ (x : RowData). read_from m n (at + length (encode r)) voices (rows ++ (x ∷ [])) others) back
       ∙ rows_load rest n (at + length (encode r)) voices (rows ++ (r ∷ [])) (subst (Holdable m voices) (sym more) H)
       (omega (arith, l, ap length split, length-append (encode r) others))
       ∙ ap (accepted voices) more
 
-  voice_item_here : (voices : List ℕ) (s : ℕ) (rest : List ℕ) (rows : List RowData) (others : List ℕ) → Holdable m (voices ++ (s ∷ rest)) rows → item_at m voices [] (voice_record s ++ others) ≡ voice s
-  voice_item_here voices s rest rows others H =
+  read_voice_here : (voices : List ℕ) (s : ℕ) (rest : List ℕ) (rows : List RowData) (others : List ℕ) → Holdable m (voices ++ (s ∷ rest)) rows → read_record m voices [] (voice_record s ++ others) ≡ voice s
+  read_voice_here voices s rest rows others H =
       let all = voices ++ (s ∷ rest) in
       let long = length-append voices (s ∷ rest) in
       let p = H.limited.sets (length voices) (omega (arith, long)) in
@@ -127,7 +127,7 @@ module _ (m : Meaning) (L : Laws m) where
       let split = append_assoc (voice_record s) (voice_records rest) end in
       let more = append_assoc voices (s ∷ []) rest in
       ap (read_from m (suc n) at voices []) split
-      ∙ ap (read_on m (read_from m n) at voices [] (voice_record s ++ others)) (voice_item_here voices s rest rows others H)
+      ∙ ap (read_on m (read_from m n) at voices [] (voice_record s ++ others)) (read_voice_here voices s rest rows others H)
       ∙ ap (read_from m n (at + 9) (voices ++ (s ∷ [])) []) (drop_at (voice_record s) others 9 (ap suc (length_low_first 8 s)))
       ∙ voices_load rest rows n (at + 9) (voices ++ (s ∷ [])) (subst (λ (x : List ℕ). Holdable m x rows) (sym more) H) (omega (arith, l, ap length split, length-append (voice_record s) others))
       ∙ ap (λ (x : List ℕ). accepted x rows) more

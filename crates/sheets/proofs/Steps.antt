@@ -10,31 +10,31 @@ use Rattle.search.specs.Calls.{Table, begun, empty, Answer, Judgement, judged, D
 use Rattle.search.specs.Calls.Call.{declare, post, wipe}
 use Rattle.table.specs.declared.refusal.Refusal.{Refusal}
 use Rattle.table.specs.Refusals.{refusal_number}
-use Rattle.sheets.specs.declared.fault.Cause.{Cause}
-use Rattle.sheets.specs.declared.fault.Cause.TheVariants.{Declined}
+use Rattle.sheets.specs.declared.refusal.RecordRefusal.{RecordRefusal}
+use Rattle.sheets.specs.declared.refusal.RecordRefusal.TheVariants.{ByTable}
 use Rattle.sheets.specs.Causes.{cause_number, cause_layer, cause_offset}
-use Rattle.sheets.specs.Reading.{Item, if_passes, item_at, SheetReading, read_from, read_on, read_sheet}
-use Rattle.sheets.specs.Reading.Item.{last, voice, row, fault}
+use Rattle.sheets.specs.Reading.{RecordReading, if_passes, read_record, SheetReading, read_from, read_on, read_sheet}
+use Rattle.sheets.specs.Reading.RecordReading.{last, voice, row, fault}
 use Rattle.sheets.specs.Reading.SheetReading.{refused}
-use Rattle.sheets.specs.Loading.{Step, step_of, item_step, item_table, Unsearched, ItemStored, ItemRead, Fills, RecordsRead}
-use Rattle.sheets.specs.Loading.Step.{ends, goes, fails}
-use Rattle.sheets.proofs.Items.{voice_here, row_here}
+use Rattle.sheets.specs.Loading.{RecordAnswer, record_answer, reading_record_answer, record_table, Unsearched, RecordStored, RecordRead, Fills, RecordsRead}
+use Rattle.sheets.specs.Loading.RecordAnswer.{sheet_end, record_length, record_fault}
+use Rattle.sheets.proofs.Records.{voice_here, row_here}
 use Rattle.sheets.proofs.Loaded.{ReadSo, BareRead, none_read, one_voice, one_row, fault_at, some_row}
 
 -- ---- a record whose call was made
 
 module _ (b : Behaviour) (m : Meaning) (t u : Table) (v w : b.State) where
   -- the call was accepted
-  passed : (j : Judgement) (i : Item) (n : ℕ) → j ≡ Judgement.passes → goes n ≡ item_step i → u ≡ item_table m t.voices t.rows i → ItemStored b i v w
-      → ItemRead b m t v (if_passes j i) (Ok (Some n)) u w
-  passed j i n e f g h = subst (λ (x : Judgement). ItemRead b m t v (if_passes x i) (Ok (Some n)) u w) (sym e) (record { step = f; table = g; store = h })
+  passed : (j : Judgement) (i : RecordReading) (n : ℕ) → j ≡ Judgement.passes → record_length n ≡ reading_record_answer i → u ≡ record_table m t.voices t.rows i → RecordStored b i v w
+      → RecordRead b m t v (if_passes j i) (Ok (Some n)) u w
+  passed j i n e f g h = subst (λ (x : Judgement). RecordRead b m t v (if_passes x i) (Ok (Some n)) u w) (sym e) (record { answer = f; table = g; store = h })
 
   -- it was declined
-  turned_down : (j : Judgement) (i : Item) (r : Result (Option ℕ) Cause) (refusal : Refusal) → Unsearched t → r ≡ Err (Declined refusal)
-      → (j ≡ Judgement.declined (refusal_number refusal)) × (u ≡ t) × (w ≡ v) → ItemRead b m t v (if_passes j i) r u w
+  turned_down : (j : Judgement) (i : RecordReading) (r : Result (Option ℕ) RecordRefusal) (refusal : Refusal) → Unsearched t → r ≡ Err (ByTable refusal)
+      → (j ≡ Judgement.declined (refusal_number refusal)) × (u ≡ t) × (w ≡ v) → RecordRead b m t v (if_passes j i) r u w
   turned_down j i r refusal U e d =
-      subst (λ (x : Judgement). ItemRead b m t v (if_passes x i) r u w) (sym d.0)
-      (record { step = ap step_of e; table = d.1 ∙ U; store = d.2 })
+      subst (λ (x : Judgement). RecordRead b m t v (if_passes x i) r u w) (sym d.0)
+      (record { answer = ap record_answer e; table = d.1 ∙ U; store = d.2 })
 
 declared_by : (b : Behaviour) (m : Meaning) (t u : Table) (v w : b.State) (s : ℕ) → Does b m t v (declare s) Answer.done u w
     → (judged m t (declare s) ≡ Judgement.passes) × (u ≡ begun (t.voices ++ (s ∷ [])) t.rows) × b.empties v w
@@ -52,28 +52,28 @@ post_declined : (b : Behaviour) (m : Meaning) (t u : Table) (v w : b.State) (bs 
     → (judged m t (post bs) ≡ Judgement.declined n) × (u ≡ t) × (w ≡ v)
 post_declined b m t u v w bs n (Does.declines c n' j) = (j, refl, refl)
 
-pub at_item : (b : Behaviour) (m : Meaning) (t u : Table) (v w : b.State) (i i' : Item) (r : Result (Option ℕ) Cause) → i' ≡ i → ItemRead b m t v i r u w → ItemRead b m t v i' r u w
-at_item b m t u v w i i' r e h = subst (λ (x : Item). ItemRead b m t v x r u w) (sym e) h
+pub at_reading : (b : Behaviour) (m : Meaning) (t u : Table) (v w : b.State) (i i' : RecordReading) (r : Result (Option ℕ) RecordRefusal) → i' ≡ i → RecordRead b m t v i r u w → RecordRead b m t v i' r u w
+at_reading b m t u v w i i' r e h = subst (λ (x : RecordReading). RecordRead b m t v x r u w) (sym e) h
 
 module _ (b : Behaviour) (m : Meaning) (t u : Table) (v w : b.State) where
-  pub voice_declared : (s : ℕ) → Does b m t v (declare s) Answer.done u w → ItemRead b m t v (if_passes (judged m (begun t.voices t.rows) (declare s)) (voice s)) (Ok (Some 9)) u w
+  pub voice_declared : (s : ℕ) → Does b m t v (declare s) Answer.done u w → RecordRead b m t v (if_passes (judged m (begun t.voices t.rows) (declare s)) (voice s)) (Ok (Some 9)) u w
   voice_declared s D =
       let d = declared_by b m t u v w s D in
       passed b m t u v w (judged m t (declare s)) (voice s) 9 d.0 refl d.1 d.2
 
-  pub voice_declined : (s : ℕ) (r : Result (Option ℕ) Cause) (refusal : Refusal) → Unsearched t → r ≡ Err (Declined refusal)
-      → Does b m t v (declare s) (Answer.refused (refusal_number refusal)) u w → ItemRead b m t v (if_passes (judged m (begun t.voices t.rows) (declare s)) (voice s)) r u w
+  pub voice_declined : (s : ℕ) (r : Result (Option ℕ) RecordRefusal) (refusal : Refusal) → Unsearched t → r ≡ Err (ByTable refusal)
+      → Does b m t v (declare s) (Answer.refused (refusal_number refusal)) u w → RecordRead b m t v (if_passes (judged m (begun t.voices t.rows) (declare s)) (voice s)) r u w
   voice_declined s r refusal U e D =
       turned_down b m t u v w (judged m t (declare s)) (voice s) r refusal U e (declare_declined b m t u v w s (refusal_number refusal) D)
 
   pub row_posted : (bs : List ℕ) → Does b m t v (post bs) Answer.done u w
-      → ItemRead b m t v (if_passes (judged m (begun t.voices t.rows) (post bs)) (row bs)) (Ok (Some (length bs))) u w
+      → RecordRead b m t v (if_passes (judged m (begun t.voices t.rows) (post bs)) (row bs)) (Ok (Some (length bs))) u w
   row_posted bs D =
       let d = posted_by b m t u v w bs D in
       passed b m t u v w (judged m t (post bs)) (row bs) (length bs) d.0 refl d.1 d.2
 
-  pub row_declined : (bs : List ℕ) (r : Result (Option ℕ) Cause) (refusal : Refusal) → Unsearched t → r ≡ Err (Declined refusal)
-      → Does b m t v (post bs) (Answer.refused (refusal_number refusal)) u w → ItemRead b m t v (if_passes (judged m (begun t.voices t.rows) (post bs)) (row bs)) r u w
+  pub row_declined : (bs : List ℕ) (r : Result (Option ℕ) RecordRefusal) (refusal : Refusal) → Unsearched t → r ≡ Err (ByTable refusal)
+      → Does b m t v (post bs) (Answer.refused (refusal_number refusal)) u w → RecordRead b m t v (if_passes (judged m (begun t.voices t.rows) (post bs)) (row bs)) r u w
   row_declined bs r refusal U e D =
       turned_down b m t u v w (judged m t (post bs)) (row bs) r refusal U e (post_declined b m t u v w bs (refusal_number refusal) D)
 
@@ -107,7 +107,7 @@ pub record Longer (b : Behaviour) (m : Meaning) (bs : List ℕ) (w : b.State) (u
 
 module _ (b : Behaviour) (m : Meaning) (bs : List ℕ) (w : b.State) (t : Table) (v : b.State) (at : ℕ) (S : SoFar b m bs w t v at) where
   -- the rest, one record further
-  on : (i : Item) → item_at m t.voices t.rows (drop at bs) ≡ i
+  on : (i : RecordReading) → read_record m t.voices t.rows (drop at bs) ≡ i
       → (k : ℕ) × (length bs < at + suc k) × (read_on m (read_from m k) at t.voices t.rows (drop at bs) i ≡ read_sheet m bs)
   on i e = on_by S.bound S.enough S.same
     where
@@ -116,10 +116,10 @@ module _ (b : Behaviour) (m : Meaning) (bs : List ℕ) (w : b.State) (t : Table)
       on_by zero l s = absurd (omega (arith, S.inside))
       on_by (suc k) l s = (k, l, ap (read_on m (read_from m k) at t.voices t.rows (drop at bs)) (sym e) ∙ s)
 
-  pub further : (n : ℕ) (u : Table) (x : b.State) → ItemRead b m t v (item_at m t.voices t.rows (drop at bs)) (Ok (Some n)) u x → Longer b m bs w u x at n
-  further n u x h = by (item_at m t.voices t.rows (drop at bs)) refl h.step h.table h.store
+  pub further : (n : ℕ) (u : Table) (x : b.State) → RecordRead b m t v (read_record m t.voices t.rows (drop at bs)) (Ok (Some n)) u x → Longer b m bs w u x at n
+  further n u x h = by (read_record m t.voices t.rows (drop at bs)) refl h.answer h.table h.store
     where
-      by : (i : Item) → item_at m t.voices t.rows (drop at bs) ≡ i → goes n ≡ item_step i → u ≡ item_table m t.voices t.rows i → ItemStored b i v x → Longer b m bs w u x at n
+      by : (i : RecordReading) → read_record m t.voices t.rows (drop at bs) ≡ i → record_length n ≡ reading_record_answer i → u ≡ record_table m t.voices t.rows i → RecordStored b i v x → Longer b m bs w u x at n
       by last e f g k = let z : ◌≡◌ {A = ℕ} 0 1 = cc in absurd (omega arith)
       by (voice s) e f g k =
           let here = voice_here m t.voices t.rows (drop at bs) s e in
@@ -163,11 +163,11 @@ module _ (b : Behaviour) (m : Meaning) (bs : List ℕ) (w : b.State) (t : Table)
           subst (λ (y : ℕ). Longer b m bs w u x at y) (sym long) (subst (λ (y : Table). Longer b m bs w y x at (length r)) (sym g) next)
       by (fault k' o l) e f g k = let z : ◌≡◌ {A = ℕ} 0 1 = cc in absurd (omega arith)
 
-  pub ended : (u : Table) (x : b.State) → ItemRead b m t v (item_at m t.voices t.rows (drop at bs)) (Ok None) u x
+  pub ended : (u : Table) (x : b.State) → RecordRead b m t v (read_record m t.voices t.rows (drop at bs)) (Ok None) u x
       → RecordsRead b m bs w u x (read_sheet m bs) (Ok tt)
-  ended u x h = by (item_at m t.voices t.rows (drop at bs)) refl h.step h.table h.store
+  ended u x h = by (read_record m t.voices t.rows (drop at bs)) refl h.answer h.table h.store
     where
-      by : (i : Item) → item_at m t.voices t.rows (drop at bs) ≡ i → ends ≡ item_step i → u ≡ item_table m t.voices t.rows i → ItemStored b i v x
+      by : (i : RecordReading) → read_record m t.voices t.rows (drop at bs) ≡ i → sheet_end ≡ reading_record_answer i → u ≡ record_table m t.voices t.rows i → RecordStored b i v x
           → RecordsRead b m bs w u x (read_sheet m bs) (Ok tt)
       by last e f g k =
           let rest = on last e in
@@ -177,13 +177,13 @@ module _ (b : Behaviour) (m : Meaning) (bs : List ℕ) (w : b.State) (t : Table)
       by (row r) e f g k = let z : ◌≡◌ {A = ℕ} 0 1 = cc in absurd (omega arith)
       by (fault k' o l) e f g k = let z : ◌≡◌ {A = ℕ} 0 1 = cc in absurd (omega arith)
 
-  pub faulted : Laws m → (cause : Cause) (place : ℕ) (u : Table) (x : b.State) → place ≡ at + cause_offset cause
-      → ItemRead b m t v (item_at m t.voices t.rows (drop at bs)) (Err cause) u x
+  pub faulted : Laws m → (cause : RecordRefusal) (place : ℕ) (u : Table) (x : b.State) → place ≡ at + cause_offset cause
+      → RecordRead b m t v (read_record m t.voices t.rows (drop at bs)) (Err cause) u x
       → RecordsRead b m bs w u x (read_sheet m bs) (Err (record { cause = cause; place = place }))
-  faulted L cause place u x p h = by (item_at m t.voices t.rows (drop at bs)) refl h.step h.table h.store
+  faulted L cause place u x p h = by (read_record m t.voices t.rows (drop at bs)) refl h.answer h.table h.store
     where
-      by : (i : Item) → item_at m t.voices t.rows (drop at bs) ≡ i → fails (cause_number cause) (cause_offset cause) (cause_layer cause) ≡ item_step i
-          → u ≡ item_table m t.voices t.rows i → ItemStored b i v x
+      by : (i : RecordReading) → read_record m t.voices t.rows (drop at bs) ≡ i → record_fault (cause_number cause) (cause_offset cause) (cause_layer cause) ≡ reading_record_answer i
+          → u ≡ record_table m t.voices t.rows i → RecordStored b i v x
           → RecordsRead b m bs w u x (read_sheet m bs) (Err (record { cause = cause; place = place }))
       by last e f g k = let z : ◌≡◌ {A = ℕ} 0 1 = cc in absurd (omega arith)
       by (voice s) e f g k = let z : ◌≡◌ {A = ℕ} 0 1 = cc in absurd (omega arith)
@@ -198,10 +198,10 @@ module _ (b : Behaviour) (m : Meaning) (bs : List ℕ) (w : b.State) (t : Table)
           ap (read_on m (read_from m rest.0) at t.voices t.rows (drop at bs)) (sym is) ∙ rest.2 in
           subst₂ (λ (o : SheetReading) (q : ℕ). RecordsRead b m bs w u x o (Err (record { cause = cause; place = q }))) come (sym p) here
         where
-          back : Step → Item
-          back ends = last
-          back (goes n) = last
-          back (fails number offset layer) = fault number offset layer
+          back : RecordAnswer → RecordReading
+          back sheet_end = last
+          back (record_length n) = last
+          back (record_fault number offset layer) = fault number offset layer
 
 -- ---- the same, with the rest of the bytes at hand
 
@@ -218,14 +218,14 @@ module _ {b : Behaviour} {m : Meaning} {bs : List ℕ} {w : b.State} {t : Table}
   pub left_inside : length rest ≤ length bs
   left_inside = omega (arith, ap length L.rest-is, length-drop (length bs - length rest) bs)
 
-  pub at_left : {u : Table} {x : b.State} {r s : Result (Option ℕ) Cause} → r ≡ s → ItemRead b m t v (item_at m t.voices t.rows rest) r u x
-      → ItemRead b m t v (item_at m t.voices t.rows (drop (length bs - length rest) bs)) s u x
+  pub at_left : {u : Table} {x : b.State} {r s : Result (Option ℕ) RecordRefusal} → r ≡ s → RecordRead b m t v (read_record m t.voices t.rows rest) r u x
+      → RecordRead b m t v (read_record m t.voices t.rows (drop (length bs - length rest) bs)) s u x
   at_left {u} {x} {r} {s} e h =
-      let i = item_at m t.voices t.rows (drop (length bs - length rest) bs) in
-      subst (λ (y : Result (Option ℕ) Cause). ItemRead b m t v i y u x) e (at_item b m t u v x (item_at m t.voices t.rows rest) i r (ap (item_at m t.voices t.rows) (sym L.rest-is)) h)
+      let i = read_record m t.voices t.rows (drop (length bs - length rest) bs) in
+      subst (λ (y : Result (Option ℕ) RecordRefusal). RecordRead b m t v i y u x) e (at_reading b m t u v x (read_record m t.voices t.rows rest) i r (ap (read_record m t.voices t.rows) (sym L.rest-is)) h)
 
   -- one record further
-  pub more_left : {u : Table} {x : b.State} {r : Result (Option ℕ) Cause} (n : ℕ) → r ≡ Ok (Some n) → ItemRead b m t v (item_at m t.voices t.rows rest) r u x
+  pub more_left : {u : Table} {x : b.State} {r : Result (Option ℕ) RecordRefusal} (n : ℕ) → r ≡ Ok (Some n) → RecordRead b m t v (read_record m t.voices t.rows rest) r u x
       → (0 < n) × (n ≤ length rest) × Left b m bs w u x (drop n rest)
   more_left {u} {x} n e h =
       let l = further b m bs w t v (length bs - length rest) L.so_far n u x (at_left e h) in

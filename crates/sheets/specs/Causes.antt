@@ -1,10 +1,10 @@
 -- The number and the layer of each reason to decline a sheet.
 use Rattle.std.specs.Prelude.{ℕ, cond, List, codes, nat_le}
 use Rattle.table.specs.Refusals.{refusal_number}
-use Rattle.sheets.specs.declared.fault.Cause.{Cause}
-use Rattle.sheets.specs.declared.fault.Cause.TheVariants.{NoRecord, LateVoice, Trailing, CutVoice, Declined}
-use Rattle.sheets.specs.declared.fault.Layer.{Layer}
-use Rattle.sheets.specs.declared.fault.Layer.TheVariants.{Sheet, Row, Table}
+use Rattle.sheets.specs.declared.refusal.RecordRefusal.{RecordRefusal}
+use Rattle.sheets.specs.declared.refusal.RecordRefusal.TheVariants.{NoRecord, LateVoice, Trailing, CutVoice, ByTable}
+use Rattle.sheets.specs.declared.refusal.Layer.{Layer}
+use Rattle.sheets.specs.declared.refusal.Layer.TheVariants.{Sheet, Row, Table}
 
 -- the name of a layer
 abbrev pub layer_name : Layer → List ℕ
@@ -17,24 +17,24 @@ abbrev pub layer_of : ℕ → Layer
 layer_of n = cond (nat_le 10 n) Table Row
 
 -- a cause is told by its number and its layer: the sheet's own, or those of the refusal of Declare or Post
-abbrev pub cause_number : Cause → ℕ
+abbrev pub cause_number : RecordRefusal → ℕ
 cause_number NoRecord = 1
 cause_number LateVoice = 3
 cause_number Trailing = 4
 cause_number CutVoice = 6
-cause_number (Declined refusal) = refusal_number refusal
+cause_number (ByTable refusal) = refusal_number refusal
 
-abbrev pub cause_layer : Cause → Layer
+abbrev pub cause_layer : RecordRefusal → Layer
 cause_layer NoRecord = Sheet
 cause_layer LateVoice = Sheet
 cause_layer Trailing = Sheet
 cause_layer CutVoice = Sheet
-cause_layer (Declined refusal) = layer_of (refusal_number refusal)
+cause_layer (ByTable refusal) = layer_of (refusal_number refusal)
 
 -- how far from its record's first byte the place of a fault is: bytes that follow hex 5A are told by the first of them
-abbrev pub cause_offset : Cause → ℕ
+abbrev pub cause_offset : RecordRefusal → ℕ
 cause_offset NoRecord = 0
 cause_offset LateVoice = 0
 cause_offset Trailing = 1
 cause_offset CutVoice = 0
-cause_offset (Declined refusal) = 0
+cause_offset (ByTable refusal) = 0

@@ -8,9 +8,9 @@ use Rattle.search.specs.Calls.Call.{declare, post, wipe}
 use Rattle.search.specs.Calls.Answer.{done}
 use Rattle.rows.specs.Placed.{AllAccepted}
 use Rattle.search.specs.Results.{Limited}
-use Rattle.sheets.specs.declared.fault.Layer.{Layer}
+use Rattle.sheets.specs.declared.refusal.Layer.{Layer}
 use Rattle.sheets.specs.Sheets.{records, sheet}
-use Rattle.sheets.specs.Reading.{Item, item_at, read_sheet}
+use Rattle.sheets.specs.Reading.{RecordReading, read_record, read_sheet}
 use Rattle.sheets.specs.Reading.SheetReading.{accepted, refused}
 
 -- voices and rows that a table can have: within its limits, and the bank accepts each row
@@ -27,7 +27,7 @@ pub record FirstFault (m : Meaning) (bs : List ℕ) (number place : ℕ) (layer 
   pub offset : ℕ
   pub holdable : Holdable m voices rows
   pub before : bs ≡ records voices rows ++ rest
-  pub here : item_at m voices rows rest ≡ Item.fault number offset layer
+  pub here : read_record m voices rows rest ≡ RecordReading.fault number offset layer
   pub placed : place ≡ length (records voices rows) + offset
 
 -- One sheet a table: the sheet of voices and rows that a table can have is accepted, and gives them back; an accepted sheet is the one of its voices and

@@ -8,12 +8,12 @@ use Rattle.search.specs.Calls.Call.{wipe}
 use Rattle.search.specs.Calls.Answer.{done}
 use Rattle.search.specs.Histories.{History, LeadsTo}
 use Rattle.search.specs.Results.{Invariant}
-use Rattle.sheets.specs.declared.fault.Cause.{Cause}
-use Rattle.sheets.specs.declared.fault.Layer.{Layer}
-use Rattle.sheets.specs.declared.fault.SheetFault.{SheetFault}
+use Rattle.sheets.specs.declared.refusal.RecordRefusal.{RecordRefusal}
+use Rattle.sheets.specs.declared.refusal.Layer.{Layer}
+use Rattle.sheets.specs.declared.refusal.SheetRefusal.{SheetRefusal}
 use Rattle.sheets.specs.Causes.{cause_number, cause_layer, cause_offset}
-use Rattle.sheets.specs.Reading.{Item, SheetReading, read_sheet}
-use Rattle.sheets.specs.Reading.Item.{last, voice, row, fault}
+use Rattle.sheets.specs.Reading.{RecordReading, SheetReading, read_sheet}
+use Rattle.sheets.specs.Reading.RecordReading.{last, voice, row, fault}
 use Rattle.sheets.specs.Reading.SheetReading.{accepted, refused}
 use Rattle.sheets.specs.Laws.{FirstFault, declared_after, posted_after}
 
@@ -25,7 +25,7 @@ pub data LoadAnswer : Type 0 where
   declined : ℕ → ℕ → Layer → LoadAnswer
 
 -- the code's answer
-abbrev pub load_answer : Result Unit SheetFault → LoadAnswer
+abbrev pub load_answer : Result Unit SheetRefusal → LoadAnswer
 load_answer (Ok x) = loaded
 load_answer (Err f) = declined (cause_number f.cause) f.place (cause_layer f.cause)
 
@@ -82,45 +82,45 @@ LoadBack (refused number place layer) bytes saved = Unit {0}
 -- ---- one record
 
 -- what reading a record answers: nothing for the sheet's end, its length, or a fault
-pub data Step : Type 0 where
-  ends : Step
-  goes : ℕ → Step
-  fails : ℕ → ℕ → Layer → Step
+pub data RecordAnswer : Type 0 where
+  sheet_end : RecordAnswer
+  record_length : ℕ → RecordAnswer
+  record_fault : ℕ → ℕ → Layer → RecordAnswer
 
-abbrev pub step_of : Result (Option ℕ) Cause → Step
-step_of (Ok None) = ends
-step_of (Ok (Some n)) = goes n
-step_of (Err c) = fails (cause_number c) (cause_offset c) (cause_layer c)
+abbrev pub record_answer : Result (Option ℕ) RecordRefusal → RecordAnswer
+record_answer (Ok None) = sheet_end
+record_answer (Ok (Some n)) = record_length n
+record_answer (Err c) = record_fault (cause_number c) (cause_offset c) (cause_layer c)
 
-abbrev pub item_step : Item → Step
-item_step last = ends
-item_step (voice s) = goes 9
-item_step (row r) = goes (length r)
-item_step (fault number offset layer) = fails number offset layer
+abbrev pub reading_record_answer : RecordReading → RecordAnswer
+reading_record_answer last = sheet_end
+reading_record_answer (voice s) = record_length 9
+reading_record_answer (row r) = record_length (length r)
+reading_record_answer (fault number offset layer) = record_fault number offset layer
 
 -- the table after a record, where it had these voices and rows
-abbrev pub item_table : Meaning → List ℕ → List RowData → Item → Table
-item_table m voices rows last = begun voices rows
-item_table m voices rows (voice s) = begun (voices ++ (s ∷ [])) rows
-item_table m voices rows (row r) = begun voices (rows ++ (decode m r ∷ []))
-item_table m voices rows (fault number offset layer) = begun voices rows
+abbrev pub record_table : Meaning → List ℕ → List RowData → RecordReading → Table
+record_table m voices rows last = begun voices rows
+record_table m voices rows (voice s) = begun (voices ++ (s ∷ [])) rows
+record_table m voices rows (row r) = begun voices (rows ++ (decode m r ∷ []))
+record_table m voices rows (fault number offset layer) = begun voices rows
 
 -- a table whose search has not begun
 abbrev pub Unsearched : Table → Type 0
 Unsearched t = t ≡ begun t.voices t.rows
 
 -- the store after a record: an accepted Declare or Post empties it
-abbrev pub ItemStored : (b : Behaviour) → Item → b.State → b.State → Type 0
-ItemStored b last s r = r ≡ s
-ItemStored b (voice x) s r = b.empties s r
-ItemStored b (row bs) s r = b.empties s r
-ItemStored b (fault number offset layer) s r = r ≡ s
+abbrev pub RecordStored : (b : Behaviour) → RecordReading → b.State → b.State → Type 0
+RecordStored b last s r = r ≡ s
+RecordStored b (voice x) s r = b.empties s r
+RecordStored b (row bs) s r = b.empties s r
+RecordStored b (fault number offset layer) s r = r ≡ s
 
 -- a record is read: the answer, and the table and the store then
-pub record ItemRead (b : Behaviour) (m : Meaning) (t : Table) (s : b.State) (i : Item) (res : Result (Option ℕ) Cause) (u : Table) (r : b.State) : Type 0 where
-  pub step : step_of res ≡ item_step i
-  pub table : u ≡ item_table m t.voices t.rows i
-  pub store : ItemStored b i s r
+pub record RecordRead (b : Behaviour) (m : Meaning) (t : Table) (s : b.State) (i : RecordReading) (res : Result (Option ℕ) RecordRefusal) (u : Table) (r : b.State) : Type 0 where
+  pub answer : record_answer res ≡ reading_record_answer i
+  pub table : u ≡ record_table m t.voices t.rows i
+  pub store : RecordStored b i s r
 
 -- Whatever the calls were that led to an empty table and the state s: with a Declare for each of these voices and a Post for each of these rows, all accepted, they
 -- lead to a table with these, its search not begun, and the state r.
@@ -129,8 +129,8 @@ Fills b m s voices rows r =
     (g : b.State) (h : List (Call × Answer)) → History b m g h empty s → History b m g (posted_after (declared_after h voices) rows) (begun voices rows) r
 
 -- all records are read, up to the sheet's end or its first fault
-pub data RecordsRead (b : Behaviour) (m : Meaning) (bytes : List ℕ) (s : b.State) (u : Table) (r : b.State) : SheetReading → Result Unit SheetFault → Type 0 where
+pub data RecordsRead (b : Behaviour) (m : Meaning) (bytes : List ℕ) (s : b.State) (u : Table) (r : b.State) : SheetReading → Result Unit SheetRefusal → Type 0 where
   ended : (voices : List ℕ) (rows : List RowData) → u ≡ begun voices rows → Fills b m s voices rows r → RecordsRead b m bytes s u r (accepted voices rows) (Ok tt)
-  faulted : (cause : Cause) (place : ℕ) (first : FirstFault m bytes (cause_number cause) place (cause_layer cause)) → u ≡ begun first.voices first.rows
+  faulted : (cause : RecordRefusal) (place : ℕ) (first : FirstFault m bytes (cause_number cause) place (cause_layer cause)) → u ≡ begun first.voices first.rows
       → Fills b m s first.voices first.rows r
       → RecordsRead b m bytes s u r (refused (cause_number cause) place (cause_layer cause)) (Err (record { cause = cause; place = place }))

@@ -3,8 +3,8 @@ use Rattle.std.specs.Prelude.{ℕ, zero, suc, ◌+◌, ◌*◌, cond, List, [], 
 use Rattle.rows.specs.Rows.{RowData, Meaning}
 use Rattle.rows.specs.Bytes.{count_byte, head_length, lettered, decode}
 use Rattle.rows.specs.Refusing.{Judgement, judge, voice_reasons, row_reasons}
-use Rattle.sheets.specs.declared.fault.Layer.{Layer}
-use Rattle.sheets.specs.declared.fault.Layer.TheVariants.{Sheet}
+use Rattle.sheets.specs.declared.refusal.Layer.{Layer}
+use Rattle.sheets.specs.declared.refusal.Layer.TheVariants.{Sheet}
 use Rattle.sheets.specs.Sheets.{number_in}
 use Rattle.sheets.specs.Causes.{layer_of}
 
@@ -12,26 +12,26 @@ use Rattle.sheets.specs.Causes.{layer_of}
 
 -- What stands at the front of bytes: the sheet's end; a voice with this opening set; a row of these bytes; or a fault, by its number, how far from here
 -- its place is, and its layer.
-pub data Item : Type 0 where
-  last : Item
-  voice : ℕ → Item
-  row : List ℕ → Item
-  fault : ℕ → ℕ → Layer → Item
+pub data RecordReading : Type 0 where
+  last : RecordReading
+  voice : ℕ → RecordReading
+  row : List ℕ → RecordReading
+  fault : ℕ → ℕ → Layer → RecordReading
 
 -- a voice or a row that is declined makes its record faulty
-abbrev pub if_passes : Judgement → Item → Item
+abbrev pub if_passes : Judgement → RecordReading → RecordReading
 if_passes Judgement.passes item = item
 if_passes (Judgement.declined n) item = fault n 0 (layer_of n)
 
 -- hex 5A, with what follows it: nothing may
-abbrev pub end_item : List ℕ → Item
-end_item [] = last
-end_item (b ∷ bs) = fault 4 1 Sheet
+abbrev pub read_end : List ℕ → RecordReading
+read_end [] = last
+read_end (b ∷ bs) = fault 4 1 Sheet
 
 -- hex 56, with what follows it, after these voices and rows: no row may stand before it, and the set has 8 bytes
-abbrev pub voice_item : Meaning → List ℕ → List RowData → List ℕ → Item
-voice_item m voices (r ∷ rows) bs = fault 3 0 Sheet
-voice_item m voices [] bs =
+abbrev pub read_voice : Meaning → List ℕ → List RowData → List ℕ → RecordReading
+read_voice m voices (r ∷ rows) bs = fault 3 0 Sheet
+read_voice m voices [] bs =
     cond (nat_lt (length bs) 8) (fault 6 0 Sheet)
     (if_passes (judge (voice_reasons voices (number_in (take 8 bs)))) (voice (number_in (take 8 bs))))
 
@@ -39,14 +39,14 @@ voice_item m voices [] bs =
 abbrev pub front_row : Meaning → List ℕ → List ℕ
 front_row m bs = cond (lettered m bs) (take (head_length m bs + 4 * count_byte bs) bs) bs
 
-abbrev pub row_item : Meaning → List ℕ → List RowData → List ℕ → Item
-row_item m voices rows bs = if_passes (judge (row_reasons m voices rows (front_row m bs))) (row (front_row m bs))
+abbrev pub read_row : Meaning → List ℕ → List RowData → List ℕ → RecordReading
+read_row m voices rows bs = if_passes (judge (row_reasons m voices rows (front_row m bs))) (row (front_row m bs))
 
 -- what stands at the front of these bytes, after the records of these voices and rows
-abbrev pub item_at : Meaning → List ℕ → List RowData → List ℕ → Item
-item_at m voices rows [] = fault 1 0 Sheet
-item_at m voices rows (b ∷ bs) =
-    cond (b == 0x5A) (end_item bs) (cond (b == 0x56) (voice_item m voices rows bs) (row_item m voices rows (b ∷ bs)))
+abbrev pub read_record : Meaning → List ℕ → List RowData → List ℕ → RecordReading
+read_record m voices rows [] = fault 1 0 Sheet
+read_record m voices rows (b ∷ bs) =
+    cond (b == 0x5A) (read_end bs) (cond (b == 0x56) (read_voice m voices rows bs) (read_row m voices rows (b ∷ bs)))
 
 -- ---- all records
 
@@ -56,7 +56,7 @@ pub data SheetReading : Type 0 where
   refused : ℕ → ℕ → Layer → SheetReading
 
 -- what this at the front comes to, at the place `at`, after the records of these voices and rows; `next` says what all comes to that follows it
-abbrev pub read_on : Meaning → (ℕ → List ℕ → List RowData → List ℕ → SheetReading) → ℕ → List ℕ → List RowData → List ℕ → Item → SheetReading
+abbrev pub read_on : Meaning → (ℕ → List ℕ → List RowData → List ℕ → SheetReading) → ℕ → List ℕ → List RowData → List ℕ → RecordReading → SheetReading
 read_on m next at voices rows bs last = accepted voices rows
 read_on m next at voices rows bs (voice s) = next (at + 9) (voices ++ (s ∷ [])) rows (drop 9 bs)
 read_on m next at voices rows bs (row r) = next (at + length r) voices (rows ++ (decode m r ∷ [])) (drop (length r) bs)
@@ -65,7 +65,7 @@ read_on m next at voices rows bs (fault k offset layer) = refused k (at + offset
 -- record after record; the number bounds them, and each has a byte or more
 abbrev pub read_from : Meaning → ℕ → ℕ → List ℕ → List RowData → List ℕ → SheetReading
 read_from m zero at voices rows bs = refused 1 at Sheet
-read_from m (suc n) at voices rows bs = read_on m (read_from m n) at voices rows bs (item_at m voices rows bs)
+read_from m (suc n) at voices rows bs = read_on m (read_from m n) at voices rows bs (read_record m voices rows bs)
 
 abbrev pub read_sheet : Meaning → List ℕ → SheetReading
 read_sheet m bs = read_from m (suc (length bs)) 0 [] [] bs

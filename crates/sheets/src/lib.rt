@@ -1,9 +1,9 @@
 // Sheets: a table's voices and rows as bytes, loaded and saved.
 #![tactic(auto)]
 
-pub mod fault;
 pub mod laws;
 pub mod load;
 mod marks;
 mod record;
+pub mod refusal;
 pub mod save;

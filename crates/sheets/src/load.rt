@@ -2,11 +2,11 @@
 ghost use Rattle.std.specs.Prelude.{◌≡◌, true, false, is_err};
 ghost use Rattle.search.specs.Calls.{empty, Call, Answer};
 ghost use Rattle.table.specs.Shown.{model, store_in, CallDone};
-ghost use Rattle.sheets.specs.Reading.{front_row, voice_item, row_item, item_at, read_sheet};
-ghost use Rattle.sheets.specs.Loading.{load_answer, reading_answer, LoadLeaves, LoadBack, LoadExtends, Unsearched, ItemRead, RecordsRead};
+ghost use Rattle.sheets.specs.Reading.{front_row, read_voice, read_row, read_record, read_sheet};
+ghost use Rattle.sheets.specs.Loading.{load_answer, reading_answer, LoadLeaves, LoadBack, LoadExtends, Unsearched, RecordRead, RecordsRead};
 ghost use Rattle.sheets.specs.Saving.{sheet_of};
 
-use crate::fault::{Cause, SheetFault};
+use crate::refusal::{RecordRefusal, SheetRefusal};
 use crate::marks::{END_MARK, VOICE_MARK};
 use table::Table;
 use rows::bank::Bank;
@@ -34,15 +34,15 @@ fn front_row<B: Bank>(bytes: &[u8]) -> &[u8]
 fn read_voice<B: Bank, S: Store>(
     table: &mut Table<B, S>,
     rest: &[u8],
-) -> Result<Option<usize>, Cause>
+) -> Result<Option<usize>, RecordRefusal>
     requires { Unsearched (model table.old 0) }
-    ensures { ItemRead S.Store.behaviour B.Bank.meaning (model table.old 0) (store_in table.old) (voice_item B.Bank.meaning (model table.old 0).voices (model table.old 0).rows rest.now) result (model table.new 0) (store_in table.new) }
+    ensures { RecordRead S.Store.behaviour B.Bank.meaning (model table.old 0) (store_in table.old) (read_voice B.Bank.meaning (model table.old 0).voices (model table.old 0).rows rest.now) result (model table.new 0) (store_in table.new) }
 {
     if !table.rows().is_empty() {
-        return Err(Cause::LateVoice);
+        return Err(RecordRefusal::LateVoice);
     }
     let Some(set) = rest.first_chunk::<8>() else {
-        return Err(Cause::CutVoice);
+        return Err(RecordRefusal::CutVoice);
     };
     table.declare(u64::from_le_bytes(*set))?;
     Ok(Some(9))
@@ -52,9 +52,9 @@ fn read_voice<B: Bank, S: Store>(
 fn read_row<B: Bank, S: Store>(
     table: &mut Table<B, S>,
     bytes: &[u8],
-) -> Result<Option<usize>, Cause>
+) -> Result<Option<usize>, RecordRefusal>
     requires { Unsearched (model table.old 0) }
-    ensures { ItemRead S.Store.behaviour B.Bank.meaning (model table.old 0) (store_in table.old) (row_item B.Bank.meaning (model table.old 0).voices (model table.old 0).rows bytes.now) result (model table.new 0) (store_in table.new) }
+    ensures { RecordRead S.Store.behaviour B.Bank.meaning (model table.old 0) (store_in table.old) (read_row B.Bank.meaning (model table.old 0).voices (model table.old 0).rows bytes.now) result (model table.new 0) (store_in table.new) }
 {
     let row = front_row::<B>(bytes);
     table.post(row)?;
@@ -65,21 +65,21 @@ fn read_row<B: Bank, S: Store>(
 fn read_record<B: Bank, S: Store>(
     table: &mut Table<B, S>,
     bytes: &[u8],
-) -> Result<Option<usize>, Cause>
+) -> Result<Option<usize>, RecordRefusal>
     requires { Unsearched (model table.old 0) }
-    ensures { ItemRead S.Store.behaviour B.Bank.meaning (model table.old 0) (store_in table.old) (item_at B.Bank.meaning (model table.old 0).voices (model table.old 0).rows bytes.now) result (model table.new 0) (store_in table.new) }
+    ensures { RecordRead S.Store.behaviour B.Bank.meaning (model table.old 0) (store_in table.old) (read_record B.Bank.meaning (model table.old 0).voices (model table.old 0).rows bytes.now) result (model table.new 0) (store_in table.new) }
 {
     match bytes {
-        [] => Err(Cause::NoRecord),
+        [] => Err(RecordRefusal::NoRecord),
         [END_MARK] => Ok(None),
-        [END_MARK, ..] => Err(Cause::Trailing),
+        [END_MARK, ..] => Err(RecordRefusal::Trailing),
         [VOICE_MARK, rest @ ..] => read_voice(table, rest),
         _ => read_row(table, bytes),
     }
 }
 
 // Reads records until the sheet ends, or one is faulty.
-fn read_records<B: Bank, S: Store>(table: &mut Table<B, S>, bytes: &[u8]) -> Result<(), SheetFault>
+fn read_records<B: Bank, S: Store>(table: &mut Table<B, S>, bytes: &[u8]) -> Result<(), SheetRefusal>
     requires { model table.old 0 ≡ empty }
     ensures { RecordsRead S.Store.behaviour B.Bank.meaning bytes.now (store_in table.old) (model table.new 0) (store_in table.new) (read_sheet B.Bank.meaning bytes.now) result }
 {
@@ -90,14 +90,14 @@ fn read_records<B: Bank, S: Store>(table: &mut Table<B, S>, bytes: &[u8]) -> Res
             Ok(None) => return Ok(()),
             Err(cause) => {
                 let place = bytes.len() - rest.len() + cause.offset();
-                return Err(SheetFault { cause, place });
+                return Err(SheetRefusal { cause, place });
             }
         }
     }
 }
 
 // Leaves no voices and no rows where the sheet was declined.
-fn wipe_declined<B: Bank, S: Store>(table: &mut Table<B, S>, res: &Result<(), SheetFault>)
+fn wipe_declined<B: Bank, S: Store>(table: &mut Table<B, S>, res: &Result<(), SheetRefusal>)
     ensures declined { is_err res.now ≡ true → CallDone table.old Call.wipe Answer.done table.new }
     ensures accepted { is_err res.now ≡ false → table.new ≡ table.old }
 {
@@ -108,7 +108,7 @@ fn wipe_declined<B: Bank, S: Store>(table: &mut Table<B, S>, res: &Result<(), Sh
 
 // Gives the table the voices and rows of the sheet, in place of its own. The store is emptied, and the search has not begun. A declined sheet leaves no
 // voices and no rows.
-pub fn load<B: Bank, S: Store>(table: &mut Table<B, S>, bytes: &[u8]) -> Result<(), SheetFault>
+pub fn load<B: Bank, S: Store>(table: &mut Table<B, S>, bytes: &[u8]) -> Result<(), SheetRefusal>
     ensures value { load_answer result ≡ reading_answer (read_sheet B.Bank.meaning bytes.now) }
     ensures after { LoadLeaves S.Store.behaviour B.Bank.meaning bytes.now (store_in table.old) (model table.new 0) (store_in table.new) }
     ensures back { LoadBack (read_sheet B.Bank.meaning bytes.now) bytes.now (sheet_of table.new) }

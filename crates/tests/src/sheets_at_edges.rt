@@ -3,7 +3,7 @@ use kinds::FourKinds;
 use table::Table;
 use job::plan;
 use sets::ValueSet;
-use sheets::fault::Layer;
+use sheets::refusal::Layer;
 use sheets::load::load;
 use sheets::save::save;
 use std::alloc::AllocError;

@@ -7,14 +7,14 @@ use Rattle.rows.specs.Views.{row_of}
 use Rattle.search.specs.Calls.{begun, judged}
 use Rattle.search.specs.Calls.Call.{declare}
 use Rattle.table.specs.Shown.{model, store_in, rows_in}
-use Rattle.sheets.specs.declared.fault.Cause.TheVariants.{LateVoice, CutVoice}
-use Rattle.sheets.specs.declared.fault.Layer.TheVariants.{Sheet}
+use Rattle.sheets.specs.declared.refusal.RecordRefusal.TheVariants.{LateVoice, CutVoice}
+use Rattle.sheets.specs.declared.refusal.Layer.TheVariants.{Sheet}
 use Rattle.sheets.specs.Sheets.{number_in}
-use Rattle.sheets.specs.Reading.{voice_item, if_passes}
-use Rattle.sheets.specs.Reading.Item.{voice, fault}
+use Rattle.sheets.specs.Reading.{read_voice, if_passes}
+use Rattle.sheets.specs.Reading.RecordReading.{voice, fault}
 use Rattle.sheets.proofs.Numbers.{eight_bytes}
-use Rattle.sheets.proofs.Items.{late_voice, cut_voice, whole_voice}
-use Rattle.sheets.proofs.Steps.{at_item, voice_declared, voice_declined}
+use Rattle.sheets.proofs.Records.{late_voice, cut_voice, whole_voice}
+use Rattle.sheets.proofs.Steps.{at_reading, voice_declared, voice_declined}
 use Rattle.sheets.proofs.load.read_voice.Goals as goal
 
 pub returns-then-not-is_empty : goal.returns-then-not-is_empty
@@ -23,9 +23,9 @@ returns-then-not-is_empty g c =
     let t = c.args.table.now in
     let bs = c.args.rest.now in
     let some : length (rows_in t) ≡ 0 → ⊥ = λ z. eqb-false (length c.rows.result.now) 0 (sym c.if-not-is_empty.ensures) (sym (length-map c.rows.result.now row_of) ∙ ap length c.rows.ensures ∙ z) in
-    at_item g.S.Store.behaviour m (model t) (model t) (store_in t) (store_in t) (fault 3 0 Sheet) (voice_item m (vec_items t.voices) (rows_in t) bs) (Err LateVoice)
+    at_reading g.S.Store.behaviour m (model t) (model t) (store_in t) (store_in t) (fault 3 0 Sheet) (read_voice m (vec_items t.voices) (rows_in t) bs) (Err LateVoice)
     (late_voice m (vec_items t.voices) (rows_in t) bs some)
-    (record { step = refl; table = c.requires; store = refl })
+    (record { answer = refl; table = c.requires; store = refl })
 
 pub returns-in_default : goal.returns-in_default
 returns-in_default g c =
@@ -34,9 +34,9 @@ returns-in_default g c =
     let bs = c.args.rest.now in
     let none : length (rows_in t) ≡ 0 = sym (ap length c.rows.ensures) ∙ length-map c.rows.result.now row_of ∙ eqb-true (length c.rows.result.now) 0 (sym c.if-not-is_empty.ensures) in
     let short : length bs < 8 = c.in_default.ensures.cases in
-    at_item g.S.Store.behaviour m (model t) (model t) (store_in t) (store_in t) (fault 6 0 Sheet) (voice_item m (vec_items t.voices) (rows_in t) bs) (Err CutVoice)
+    at_reading g.S.Store.behaviour m (model t) (model t) (store_in t) (store_in t) (fault 6 0 Sheet) (read_voice m (vec_items t.voices) (rows_in t) bs) (Err CutVoice)
     (cut_voice m (vec_items t.voices) (rows_in t) bs none short)
-    (record { step = refl; table = c.requires; store = refl })
+    (record { answer = refl; table = c.requires; store = refl })
 
 pub returns-in_err-declare : goal.returns-in_err-declare
 returns-in_err-declare g c =
@@ -54,7 +54,7 @@ returns-in_err-declare g c =
     let none : length (rows_in t) ≡ 0 = sym (ap length c.rows.ensures) ∙ length-map c.rows.result.now row_of ∙ eqb-true (length c.rows.result.now) 0 (sym c.if-not-is_empty.ensures) in
     let long : 8 ≤ length bs = c.in-Some.ensures.cases.enough in
     let number : number_in (take 8 bs) ≡ s = eight_bytes bs long ∙ ap (from_le_bytes w64) (sym c.in-Some.ensures.cases.same) ∙ sym c.from_le_bytes.ensures in
-    at_item g.S.Store.behaviour m (model t) (model u) v w (if_passes (judged m (begun (vec_items t.voices) (rows_in t)) (declare s)) (voice s)) (voice_item m (vec_items t.voices) (rows_in t) bs) r
+    at_reading g.S.Store.behaviour m (model t) (model u) v w (if_passes (judged m (begun (vec_items t.voices) (rows_in t)) (declare s)) (voice s)) (read_voice m (vec_items t.voices) (rows_in t) bs) r
     (whole_voice m (vec_items t.voices) (rows_in t) bs s none long number)
     (voice_declined g.S.Store.behaviour m (model t) (model u) v w s r refusal c.requires (p.1 ∙ ap Err p.2) d)
 
@@ -71,6 +71,6 @@ returns g c =
     let none : length (rows_in t) ≡ 0 = sym (ap length c.rows.ensures) ∙ length-map c.rows.result.now row_of ∙ eqb-true (length c.rows.result.now) 0 (sym c.if-not-is_empty.ensures) in
     let long : 8 ≤ length bs = c.in-Some.ensures.cases.enough in
     let number : number_in (take 8 bs) ≡ s = eight_bytes bs long ∙ ap (from_le_bytes w64) (sym c.in-Some.ensures.cases.same) ∙ sym c.from_le_bytes.ensures in
-    at_item g.S.Store.behaviour m (model t) (model u) v w (if_passes (judged m (begun (vec_items t.voices) (rows_in t)) (declare s)) (voice s)) (voice_item m (vec_items t.voices) (rows_in t) bs) (Ok (Some 9))
+    at_reading g.S.Store.behaviour m (model t) (model u) v w (if_passes (judged m (begun (vec_items t.voices) (rows_in t)) (declare s)) (voice s)) (read_voice m (vec_items t.voices) (rows_in t) bs) (Ok (Some 9))
     (whole_voice m (vec_items t.voices) (rows_in t) bs s none long number)
     (voice_declared g.S.Store.behaviour m (model t) (model u) v w s d)

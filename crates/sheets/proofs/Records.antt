@@ -6,10 +6,10 @@ use Rattle.rows.specs.Rows.{RowData, Meaning}
 use Rattle.rows.specs.Bytes.{count_byte, head_length, lettered}
 use Rattle.search.specs.Calls.{begun, Judgement, judged}
 use Rattle.search.specs.Calls.Call.{declare, post}
-use Rattle.sheets.specs.declared.fault.Layer.TheVariants.{Sheet}
+use Rattle.sheets.specs.declared.refusal.Layer.TheVariants.{Sheet}
 use Rattle.sheets.specs.Sheets.{number_in}
-use Rattle.sheets.specs.Reading.{Item, if_passes, end_item, voice_item, front_row, row_item, item_at}
-use Rattle.sheets.specs.Reading.Item.{last, voice, row, fault}
+use Rattle.sheets.specs.Reading.{RecordReading, if_passes, read_end, read_voice, front_row, read_row, read_record}
+use Rattle.sheets.specs.Reading.RecordReading.{last, voice, row, fault}
 
 -- ---- the row at the front
 
@@ -31,17 +31,17 @@ front_part m bs =
 
 -- ---- hex 56
 
-pub late_voice : (m : Meaning) (voices : List ℕ) (rows : List RowData) (bs : List ℕ) → (length rows ≡ 0 → ⊥) → voice_item m voices rows bs ≡ fault 3 0 Sheet
+pub late_voice : (m : Meaning) (voices : List ℕ) (rows : List RowData) (bs : List ℕ) → (length rows ≡ 0 → ⊥) → read_voice m voices rows bs ≡ fault 3 0 Sheet
 late_voice m voices [] bs h = absurd (h refl)
 late_voice m voices (r ∷ rows) bs h = refl
 
-pub cut_voice : (m : Meaning) (voices : List ℕ) (rows : List RowData) (bs : List ℕ) → length rows ≡ 0 → length bs < 8 → voice_item m voices rows bs ≡ fault 6 0 Sheet
+pub cut_voice : (m : Meaning) (voices : List ℕ) (rows : List RowData) (bs : List ℕ) → length rows ≡ 0 → length bs < 8 → read_voice m voices rows bs ≡ fault 6 0 Sheet
 cut_voice m voices [] bs e h =
     cond-true (ltb (length bs) 8) (fault 6 0 Sheet) (if_passes (judged m (begun voices []) (declare (number_in (take 8 bs)))) (voice (number_in (take 8 bs)))) (lt-ltb (length bs) 8 h)
 cut_voice m voices (r ∷ rows) bs e h = absurd (omega arith)
 
 pub whole_voice : (m : Meaning) (voices : List ℕ) (rows : List RowData) (bs : List ℕ) (s : ℕ) → length rows ≡ 0 → 8 ≤ length bs → number_in (take 8 bs) ≡ s
-    → voice_item m voices rows bs ≡ if_passes (judged m (begun voices rows) (declare s)) (voice s)
+    → read_voice m voices rows bs ≡ if_passes (judged m (begun voices rows) (declare s)) (voice s)
 whole_voice m voices [] bs s e h f =
     cond-false (ltb (length bs) 8) (fault 6 0 Sheet) (if_passes (judged m (begun voices []) (declare (number_in (take 8 bs)))) (voice (number_in (take 8 bs)))) (le-ltb (length bs) 8 h)
     ∙ ap (λ (n : ℕ). if_passes (judged m (begun voices []) (declare n)) (voice n)) f
@@ -50,34 +50,34 @@ whole_voice m voices (r ∷ rows) bs s e h f = absurd (omega arith)
 -- ---- any byte
 
 module _ (m : Meaning) (voices : List ℕ) (rows : List RowData) where
-  pub at_end : (b : ℕ) (bs : List ℕ) → b ≡ 0x5A → item_at m voices rows (b ∷ bs) ≡ end_item bs
-  at_end b bs e = cond-true (eqb b 0x5A) (end_item bs) (cond (eqb b 0x56) (voice_item m voices rows bs) (row_item m voices rows (b ∷ bs))) (eq-eqb b 0x5A e)
+  pub at_end : (b : ℕ) (bs : List ℕ) → b ≡ 0x5A → read_record m voices rows (b ∷ bs) ≡ read_end bs
+  at_end b bs e = cond-true (eqb b 0x5A) (read_end bs) (cond (eqb b 0x56) (read_voice m voices rows bs) (read_row m voices rows (b ∷ bs))) (eq-eqb b 0x5A e)
 
-  pub at_voice : (b : ℕ) (bs : List ℕ) → b ≡ 0x56 → item_at m voices rows (b ∷ bs) ≡ voice_item m voices rows bs
+  pub at_voice : (b : ℕ) (bs : List ℕ) → b ≡ 0x56 → read_record m voices rows (b ∷ bs) ≡ read_voice m voices rows bs
   at_voice b bs e =
-      cond-false (eqb b 0x5A) (end_item bs) (cond (eqb b 0x56) (voice_item m voices rows bs) (row_item m voices rows (b ∷ bs))) (ne_eqb b 0x5A (λ f. omega (arith, e, f)))
-      ∙ cond-true (eqb b 0x56) (voice_item m voices rows bs) (row_item m voices rows (b ∷ bs)) (eq-eqb b 0x56 e)
+      cond-false (eqb b 0x5A) (read_end bs) (cond (eqb b 0x56) (read_voice m voices rows bs) (read_row m voices rows (b ∷ bs))) (ne_eqb b 0x5A (λ f. omega (arith, e, f)))
+      ∙ cond-true (eqb b 0x56) (read_voice m voices rows bs) (read_row m voices rows (b ∷ bs)) (eq-eqb b 0x56 e)
 
-  pub at_row : (b : ℕ) (bs : List ℕ) → (b ≡ 0x5A → ⊥) → (b ≡ 0x56 → ⊥) → item_at m voices rows (b ∷ bs) ≡ row_item m voices rows (b ∷ bs)
+  pub at_row : (b : ℕ) (bs : List ℕ) → (b ≡ 0x5A → ⊥) → (b ≡ 0x56 → ⊥) → read_record m voices rows (b ∷ bs) ≡ read_row m voices rows (b ∷ bs)
   at_row b bs e f =
-      cond-false (eqb b 0x5A) (end_item bs) (cond (eqb b 0x56) (voice_item m voices rows bs) (row_item m voices rows (b ∷ bs))) (ne_eqb b 0x5A e)
-      ∙ cond-false (eqb b 0x56) (voice_item m voices rows bs) (row_item m voices rows (b ∷ bs)) (ne_eqb b 0x56 f)
+      cond-false (eqb b 0x5A) (read_end bs) (cond (eqb b 0x56) (read_voice m voices rows bs) (read_row m voices rows (b ∷ bs))) (ne_eqb b 0x5A e)
+      ∙ cond-false (eqb b 0x56) (read_voice m voices rows bs) (read_row m voices rows (b ∷ bs)) (ne_eqb b 0x56 f)
 
 -- ---- from an item back to the bytes
 
-abbrev IsRow : Item → Type 0
+abbrev IsRow : RecordReading → Type 0
 IsRow last = ⊥
 IsRow (voice s) = ⊥
 IsRow (row r) = Unit {0}
 IsRow (fault n o l) = ⊥
 
-abbrev IsVoice : Item → Type 0
+abbrev IsVoice : RecordReading → Type 0
 IsVoice last = ⊥
 IsVoice (voice s) = Unit {0}
 IsVoice (row r) = ⊥
 IsVoice (fault n o l) = ⊥
 
-abbrev IsLast : Item → Type 0
+abbrev IsLast : RecordReading → Type 0
 IsLast last = Unit {0}
 IsLast (voice s) = ⊥
 IsLast (row r) = ⊥
@@ -112,26 +112,26 @@ no_row : (j : Judgement) (x : ℕ) (r : List ℕ) → if_passes j (voice x) ≡ 
 no_row Judgement.passes x r e = subst IsVoice e tt
 no_row (Judgement.declined n) x r e = subst IsRow (sym e) tt
 
-never_last : (j : Judgement) (i : Item) → (IsLast i → ⊥) → if_passes j i ≡ last → ⊥
+never_last : (j : Judgement) (i : RecordReading) → (IsLast i → ⊥) → if_passes j i ≡ last → ⊥
 never_last Judgement.passes i h e = h (subst IsLast (sym e) tt)
 never_last (Judgement.declined n) i h e = subst IsLast (sym e) tt
 
-end_no_voice : (bs : List ℕ) (s : ℕ) → end_item bs ≡ voice s → ⊥
+end_no_voice : (bs : List ℕ) (s : ℕ) → read_end bs ≡ voice s → ⊥
 end_no_voice [] s e = subst IsLast e tt
 end_no_voice (b ∷ bs) s e = subst IsVoice (sym e) tt
 
-end_no_row : (bs r : List ℕ) → end_item bs ≡ row r → ⊥
+end_no_row : (bs r : List ℕ) → read_end bs ≡ row r → ⊥
 end_no_row [] r e = subst IsLast e tt
 end_no_row (b ∷ bs) r e = subst IsRow (sym e) tt
 
-last_end : (b : ℕ) (bs : List ℕ) → b ≡ 0x5A → end_item bs ≡ last → b ∷ bs ≡ 0x5A ∷ []
+last_end : (b : ℕ) (bs : List ℕ) → b ≡ 0x5A → read_end bs ≡ last → b ∷ bs ≡ 0x5A ∷ []
 last_end b [] k e = ap (λ (x : ℕ). x ∷ []) k
 last_end b (x ∷ bs) k e = absurd (subst IsLast (sym e) tt)
 
 module _ (m : Meaning) (voices : List ℕ) (rows : List RowData) where
-  voice_item_voice : (rs : List RowData) (bs : List ℕ) (s : ℕ) → voice_item m voices rs bs ≡ voice s
+  read_voice_voice : (rs : List RowData) (bs : List ℕ) (s : ℕ) → read_voice m voices rs bs ≡ voice s
       → (rs ≡ []) × (8 ≤ length bs) × (number_in (take 8 bs) ≡ s) × (judged m (begun voices rs) (declare s) ≡ Judgement.passes)
-  voice_item_voice [] bs s e =
+  read_voice_voice [] bs s e =
       elim (cases_lt (length bs) 8) [
         | inl l ↦ absurd (subst IsVoice (sym (sym (cut_voice m voices [] bs refl l) ∙ e)) tt)
         | inr l ↦
@@ -139,29 +139,29 @@ module _ (m : Meaning) (voices : List ℕ) (rows : List RowData) where
             let j = judged_voice (judged m (begun voices []) (declare x)) x s (sym (whole_voice m voices [] bs x refl l refl) ∙ e) in
             (refl, l, j.1, ap (λ (n : ℕ). judged m (begun voices []) (declare n)) (sym j.1) ∙ j.0)
       ]
-  voice_item_voice (r ∷ rs) bs s e = absurd (subst IsVoice (sym e) tt)
+  read_voice_voice (r ∷ rs) bs s e = absurd (subst IsVoice (sym e) tt)
 
-  voice_item_no_row : (rs : List RowData) (bs r : List ℕ) → voice_item m voices rs bs ≡ row r → ⊥
-  voice_item_no_row [] bs r e =
+  read_voice_no_row : (rs : List RowData) (bs r : List ℕ) → read_voice m voices rs bs ≡ row r → ⊥
+  read_voice_no_row [] bs r e =
       elim (cases_lt (length bs) 8) [
         | inl l ↦ subst IsRow (sym (sym (cut_voice m voices [] bs refl l) ∙ e)) tt
         | inr l ↦
             let x = number_in (take 8 bs) in
             no_row (judged m (begun voices []) (declare x)) x r (sym (whole_voice m voices [] bs x refl l refl) ∙ e)
       ]
-  voice_item_no_row (x ∷ rs) bs r e = subst IsRow (sym e) tt
+  read_voice_no_row (x ∷ rs) bs r e = subst IsRow (sym e) tt
 
-  voice_item_not_last : (rs : List RowData) (bs : List ℕ) → voice_item m voices rs bs ≡ last → ⊥
-  voice_item_not_last [] bs e =
+  read_voice_not_last : (rs : List RowData) (bs : List ℕ) → read_voice m voices rs bs ≡ last → ⊥
+  read_voice_not_last [] bs e =
       elim (cases_lt (length bs) 8) [
         | inl l ↦ subst IsLast (sym (sym (cut_voice m voices [] bs refl l) ∙ e)) tt
         | inr l ↦
             let x = number_in (take 8 bs) in
             never_last (judged m (begun voices []) (declare x)) (voice x) (λ z. z) (sym (whole_voice m voices [] bs x refl l refl) ∙ e)
       ]
-  voice_item_not_last (x ∷ rs) bs e = subst IsLast (sym e) tt
+  read_voice_not_last (x ∷ rs) bs e = subst IsLast (sym e) tt
 
-  pub voice_here : (bs : List ℕ) (s : ℕ) → item_at m voices rows bs ≡ voice s → VoiceHere m voices rows bs s
+  pub voice_here : (bs : List ℕ) (s : ℕ) → read_record m voices rows bs ≡ voice s → VoiceHere m voices rows bs s
   voice_here [] s e = absurd (subst IsVoice (sym e) tt)
   voice_here (b ∷ bs) s e =
       elim (cases_Bool (eqb b 0x5A)) [
@@ -169,7 +169,7 @@ module _ (m : Meaning) (voices : List ℕ) (rows : List RowData) where
         | inr x ↦ elim (cases_Bool (eqb b 0x56)) [
           | inl y ↦
               let k = eqb-true b 0x56 y in
-              let v = voice_item_voice rows bs s (sym (at_voice m voices rows b bs k) ∙ e) in
+              let v = read_voice_voice rows bs s (sym (at_voice m voices rows b bs k) ∙ e) in
               record { no_rows = v.0; long = omega (arith, v.1); mark = k; number = v.2; passes = v.3 }
           | inr y ↦
               let f = front_row m (b ∷ bs) in
@@ -177,13 +177,13 @@ module _ (m : Meaning) (voices : List ℕ) (rows : List RowData) where
         ]
       ]
 
-  pub row_here : (bs r : List ℕ) → item_at m voices rows bs ≡ row r → RowHere m voices rows bs r
+  pub row_here : (bs r : List ℕ) → read_record m voices rows bs ≡ row r → RowHere m voices rows bs r
   row_here [] r e = absurd (subst IsRow (sym e) tt)
   row_here (b ∷ bs) r e =
       elim (cases_Bool (eqb b 0x5A)) [
         | inl x ↦ absurd (end_no_row bs r (sym (at_end m voices rows b bs (eqb-true b 0x5A x)) ∙ e))
         | inr x ↦ elim (cases_Bool (eqb b 0x56)) [
-          | inl y ↦ absurd (voice_item_no_row rows bs r (sym (at_voice m voices rows b bs (eqb-true b 0x56 y)) ∙ e))
+          | inl y ↦ absurd (read_voice_no_row rows bs r (sym (at_voice m voices rows b bs (eqb-true b 0x56 y)) ∙ e))
           | inr y ↦
               let f = front_row m (b ∷ bs) in
               let j = judged_row (judged m (begun voices rows) (post f)) f r (sym (at_row m voices rows b bs (eqb-false b 0x5A x) (eqb-false b 0x56 y)) ∙ e) in
@@ -194,13 +194,13 @@ module _ (m : Meaning) (voices : List ℕ) (rows : List RowData) where
         ]
       ]
 
-  pub last_here : (bs : List ℕ) → item_at m voices rows bs ≡ last → bs ≡ 0x5A ∷ []
+  pub last_here : (bs : List ℕ) → read_record m voices rows bs ≡ last → bs ≡ 0x5A ∷ []
   last_here [] e = absurd (subst IsLast (sym e) tt)
   last_here (b ∷ bs) e =
       elim (cases_Bool (eqb b 0x5A)) [
         | inl x ↦ let k = eqb-true b 0x5A x in last_end b bs k (sym (at_end m voices rows b bs k) ∙ e)
         | inr x ↦ elim (cases_Bool (eqb b 0x56)) [
-          | inl y ↦ absurd (voice_item_not_last rows bs (sym (at_voice m voices rows b bs (eqb-true b 0x56 y)) ∙ e))
+          | inl y ↦ absurd (read_voice_not_last rows bs (sym (at_voice m voices rows b bs (eqb-true b 0x56 y)) ∙ e))
           | inr y ↦
               let f = front_row m (b ∷ bs) in
               absurd (never_last (judged m (begun voices rows) (post f)) (row f) (λ z. z) (sym (at_row m voices rows b bs (eqb-false b 0x5A x) (eqb-false b 0x56 y)) ∙ e))

@@ -1,6 +1,6 @@
 // Why a sheet is declined.
 ghost use Rattle.std.specs.Prelude.{◌≡◌, Some, decimal};
-ghost use Rattle.sheets.specs.declared.fault.Cause.TheVariants.{Declined};
+ghost use Rattle.sheets.specs.declared.refusal.RecordRefusal.TheVariants.{ByTable};
 ghost use Rattle.sheets.specs.Causes.{cause_number, layer_name, cause_layer, cause_offset};
 
 use table::refusal::Refusal;
@@ -37,7 +37,7 @@ impl fmt::Display for Layer {
 
 // What is wrong with a record.
 #[derive(Clone, Copy, Debug, PartialEq, Eq)]
-pub enum Cause {
+pub enum RecordRefusal {
     // the bytes end where a record should begin
     NoRecord,
     // a voice's record follows a row
@@ -47,20 +47,20 @@ pub enum Cause {
     // the bytes end inside a voice's record
     CutVoice,
     // the table declines the voice or the row that the record stands for
-    Declined(Refusal),
+    ByTable(Refusal),
 }
 
-impl Cause {
+impl RecordRefusal {
     // The refusal's number.
     pub fn number(self) -> u8
         ensures { result ≡ cause_number self }
     {
         match self {
-            Cause::NoRecord => 1,
-            Cause::LateVoice => 3,
-            Cause::Trailing => 4,
-            Cause::CutVoice => 6,
-            Cause::Declined(refusal) => refusal.number(),
+            RecordRefusal::NoRecord => 1,
+            RecordRefusal::LateVoice => 3,
+            RecordRefusal::Trailing => 4,
+            RecordRefusal::CutVoice => 6,
+            RecordRefusal::ByTable(refusal) => refusal.number(),
         }
     }
 
@@ -69,8 +69,8 @@ impl Cause {
         ensures { result ≡ cause_layer self }
     {
         match self {
-            Cause::Declined(Refusal::Row(_)) => Layer::Row,
-            Cause::Declined(_) => Layer::Table,
+            RecordRefusal::ByTable(Refusal::Row(_)) => Layer::Row,
+            RecordRefusal::ByTable(_) => Layer::Table,
             _ => Layer::Sheet,
         }
     }
@@ -80,14 +80,14 @@ impl Cause {
         ensures { result ≡ cause_offset self }
     {
         match self {
-            Cause::Trailing => 1,
+            RecordRefusal::Trailing => 1,
             _ => 0,
         }
     }
 }
 
 // The refusal's number, in decimal.
-impl fmt::Display for Cause {
+impl fmt::Display for RecordRefusal {
     ghost output = { λ cause. Some (decimal (cause_number cause)) };
 
     fn fmt<W: fmt::Write>(&self, f: &mut fmt::Formatter<W>) -> fmt::Result {
@@ -95,17 +95,17 @@ impl fmt::Display for Cause {
     }
 }
 
-impl From<Refusal> for Cause {
-    ghost from_gives = { λ refusal r. r ≡ Declined refusal };
+impl From<Refusal> for RecordRefusal {
+    ghost from_gives = { λ refusal r. r ≡ ByTable refusal };
 
-    fn from(cause: Refusal) -> Cause {
-        Cause::Declined(cause)
+    fn from(cause: Refusal) -> RecordRefusal {
+        RecordRefusal::ByTable(cause)
     }
 }
 
 // A fault of a sheet: its cause and its place, in bytes from the sheet's first.
 #[derive(Clone, Copy, Debug, PartialEq, Eq)]
-pub struct SheetFault {
-    pub cause: Cause,
+pub struct SheetRefusal {
+    pub cause: RecordRefusal,
     pub place: usize,
 }
