@@ -16,7 +16,6 @@ use Rattle.table.specs.declared.engine.state.Search.{Search}
 use Rattle.table.specs.Searches.{place, levels_of, table_of, outcome_of}
 use Rattle.table.specs.declared.refusal.Refusal.{Refusal}
 use Rattle.table.specs.Shown.{outcome_answer, read_answer}
-use Rattle.table.specs.CallLaws.{Done}
 use Rattle.table.proofs.Calling.{found_place}
 use Rattle.table.proofs.Judging.{buffer_fits}
 
@@ -30,7 +29,7 @@ says_found none p e = cc
 pub solve_found : (st : Behaviour) (m : Meaning) {t : Table} {v : st.State} {b : ℕ} {a : Answer} {u : Table} {w : st.State} (p : List ℕ)
     → Does st m t v (solve b) a u w → a ≡ Answer.found p → u.place ≡ found p
 solve_found st m p (Does.declines c n d) e = cc
-solve_found st m p (Does.solves b u w j S) e = says_found u.place p e
+solve_found st m p (Does.solves b u w k j S) e = says_found u.place p e
 
 -- and they are the values of the search's sets
 pub found_sets : (s : Search) (p : List ℕ) → place s ≡ found p → place s ≡ found (values (vec_items s.sets))
@@ -58,15 +57,15 @@ wrote_values k after p rest e =
 
 -- ---- the same of the code's tables
 
-pub place_found : (st : Behaviour) (m : Meaning) {t : ℕ → Table} {v w : st.State} {b : ℕ} (voices : List ℕ) (rows : List RowData) (s : Search) (o : Outcome) → o ≡ Found
-    → Done st m t v (solve b) (outcome_answer o (result (place s))) (table_of voices rows s) w → place s ≡ found (values (vec_items s.sets))
-place_found st m voices rows s o e d = found_sets s (result (place s)) (solve_found st m (result (place s)) (d.does 0) (ap (λ (x : Outcome). outcome_answer x (result (place s))) e))
+pub place_found : (st : Behaviour) (m : Meaning) {t : Table} {v w : st.State} {b : ℕ} (voices : List ℕ) (rows : List RowData) (s : Search) (o : Outcome) → o ≡ Found
+    → Does st m t v (solve b) (outcome_answer o (result (place s))) (table_of voices rows s) w → place s ≡ found (values (vec_items s.sets))
+place_found st m voices rows s o e d = found_sets s (result (place s)) (solve_found st m (result (place s)) d (ap (λ (x : Outcome). outcome_answer x (result (place s))) e))
 
 pub read_wrote : (st : Behaviour) (m : Meaning) {v : st.State} (voices : List ℕ) (rows : List RowData) (s : Search) (buffer after : List ℕ) (r : Result ℕ Refusal)
     → place s ≡ found (values (vec_items s.sets)) → length (vec_items s.sets) ≤ length buffer
-    → Done st m (table_of voices rows s) v (read buffer) (read_answer r after) (table_of voices rows s) v
+    → Does st m (table_of voices rows s) v (read buffer) (read_answer r after) (table_of voices rows s) v
     → read_answer r after ≡ wrote (length (values (vec_items s.sets))) (values (vec_items s.sets) ++ drop (length (values (vec_items s.sets))) buffer)
-read_wrote st m voices rows s buffer after r e h d = read_found st m (vec_items s.sets) e h (d.does 0)
+read_wrote st m voices rows s buffer after r e h d = read_found st m (vec_items s.sets) e h d
 
 -- what is left of the bytes that a Read wrote are the found values
 pub values_left : (s : Search) (buffer after : List ℕ) (r : Result ℕ Refusal) (k : ℕ) (o : Outcome) → o ≡ Found → r ≡ Ok k → place s ≡ found (values (vec_items s.sets))

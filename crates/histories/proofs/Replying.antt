@@ -6,12 +6,12 @@ use Rattle.std.proofs.lemmas.List.{take_more, take_all, length-map, length-take-
 use Rattle.rows.specs.Rows.{Meaning}
 use Rattle.rows.specs.Laws.{Laws}
 use Rattle.stores.specs.Behaviours.{Behaviour}
-use Rattle.search.specs.Calls.{Table, Call, Answer, Formed}
+use Rattle.search.specs.Calls.{Table, Call, Answer, Formed, Does}
 use Rattle.search.specs.Calls.Call.{solve, wipe}
 use Rattle.search.specs.Calls.Answer.{done}
 use Rattle.search.specs.Histories.{History}
 use Rattle.search.proofs.OverEvery.{invariant_holds, results_agree}
-use Rattle.table.specs.CallLaws.{Done, ExtendsHistories, AnswerMeans}
+use Rattle.table.specs.CallLaws.{ExtendsHistories, AnswerMeans}
 use Rattle.table.proofs.Calling.{extends_by}
 use Rattle.histories.specs.declared.call.Call.{Call as CodeCall}
 use Rattle.histories.specs.declared.reply.Reply.{Reply}
@@ -39,10 +39,10 @@ module _ (b : Behaviour) (m : Meaning) (g : b.State) where
   formed_of : {h : List (Call × Answer)} {t : Table} {s : b.State} (c : Call) (a : Answer) → History b m g ((c, a) ∷ h) t s → Formed c
   formed_of c a (History.then h t u s r c' a' H f d) = f
 
-  pub counted_then : {h : List (Call × Answer)} {ks : List Progress} (t u : ℕ → Table) (s r : b.State) (c : Call) (a : Answer) (j : ℕ) → ExtendsHistories b m t s c a u r → (d : Done b m t s c a u r)
-      → Counted h ks (t j) s → Counted ((c, a) ∷ h) (progress_of (u (d.lost j)) ∷ ks) (u (d.lost j)) r
-  counted_then {h} {ks} t u s r c a j l d (H, e) =
-      (History.then h (t j) (u (d.lost j)) s r c a H (formed_of c a (l.history g h j H)) (d.does j), ap (λ (x : List Progress). progress_of (u (d.lost j)) ∷ x) e)
+  pub counted_then : {h : List (Call × Answer)} {ks : List Progress} (t u : Table) (s r : b.State) (c : Call) (a : Answer) → ExtendsHistories b m t s c a u r
+      → Does b m t s c a u r → Counted h ks t s → Counted ((c, a) ∷ h) (progress_of u ∷ ks) u r
+  counted_then {h} {ks} t u s r c a l d (H, e) =
+      (History.then h t u s r c a H (formed_of c a (l.history g h H)) d, ap (λ (x : List Progress). progress_of u ∷ x) e)
 
   paired_more : {t : Table} {s : b.State} {ks ks' : List Progress} (calls calls' : List Call) (answers answers' : List Answer) (c : Call) (a : Answer) → length answers ≡ length calls
       → calls' ≡ calls ++ (c ∷ []) → answers' ≡ answers ++ (a ∷ []) → ks' ≡ ks → Counted ((c, a) ∷ paired calls answers) ks t s → Counted (paired calls' answers') ks' t s
@@ -107,7 +107,7 @@ module _ (b : Behaviour) (m : Meaning) (L : Laws m) (g : b.State) where
 
   means_by : {c : Call} {a : Answer} {h : List (Call × Answer)} {t : Table} {s : b.State} → History b m g ((c, a) ∷ h) t s → AnswerMeans m h c a
   means_by (History.then h t u s r c a H f d) =
-      (extends_by b m L (λ j. t) s c a (λ j. u) r f (record { lost = λ j. 0; does = λ j. d })).means g h 0 H
+      (extends_by b m L t s c a u r f d).means g h H
 
   pub at_next : (calls : List Call) (answers : List Answer) (shown : List Progress) (n : ℕ) → length answers ≡ length calls → length shown ≡ length calls → n < length calls
       → ReachedSome (paired calls answers) (reverse shown) → ReachedSome ((get_or calls n wipe, get_or answers n done) ∷ first_paired n calls answers) (reverse (take (n + 1) shown))

@@ -5,7 +5,7 @@ use Rattle.stores.specs.Behaviours.{Behaviour}
 use Rattle.search.specs.Calls.{Table, Call, Answer}
 use Rattle.search.specs.Calls.Call.{solve, wipe}
 use Rattle.search.specs.Calls.Answer.{done}
-use Rattle.search.specs.Histories.{History, declared_voices, posted_rows}
+use Rattle.search.specs.Histories.{History, keys_lost, declared_voices, posted_rows}
 use Rattle.rows.specs.Placed.{SameLeast}
 use Rattle.search.specs.Results.{Invariant, finished}
 use Rattle.table.specs.CallLaws.{AnswerMeans}
@@ -41,7 +41,7 @@ pub record Reached (b : Behaviour) (m : Meaning) (given : b.State) (h : List (Ca
   pub state : b.State
   pub history : History b m given h table state
   pub counted : progress_after history ≡ reverse shown
-  pub invariant : Invariant m table (b.view state)
+  pub invariant : Invariant m (keys_lost history) table (b.view state)
 
 -- these answers were given to these calls, made one after the other on a new table, with this progress after each
 pub record Played (b : Behaviour) (m : Meaning) (given : b.State) (calls : List Call) (answers : List Answer) (shown : List Progress) : Type 0 where

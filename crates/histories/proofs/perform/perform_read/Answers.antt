@@ -1,10 +1,10 @@
 use Rattle.std.proofs.Common.{◌≡◌, ℕ, List, vec_items, sym, ◌∙◌, subst₂}
 use Rattle.std.specs.Vec.{with_items}
 use Rattle.std.proofs.lemmas.List.{with_items_is}
-use Rattle.search.specs.Calls.{Answer}
+use Rattle.search.specs.Calls.{Answer, Does}
 use Rattle.search.specs.Calls.Call.{read}
 use Rattle.table.specs.Shown.{model, store_in}
-use Rattle.table.specs.CallLaws.{Done, ExtendsHistories}
+use Rattle.table.specs.CallLaws.{ExtendsHistories}
 use Rattle.histories.proofs.perform.perform_read.Goals as goal
 
 pub returns-in-Ok : goal.returns-in-Ok
@@ -18,6 +18,6 @@ returns-in-Ok g c =
     let f : ◌≡◌ {A = List ℕ} out (vec_items (with_items c.in_ok-buffer.buffer out)) = sym (with_items_is c.in_ok-buffer.buffer out (c.read.auto.out ∙ c.deref_mut.ensures.len)) in
     let a = λ (x : List ℕ). Answer.wrote c.in-Ok.count x in
     record {
-      does = subst₂ (λ (x y : List ℕ). Done b m (model t) v (read x) (a y) (model t) v) e f c.in-Ok.ensures.does;
+      does = subst₂ (λ (x y : List ℕ). Does b m (model t) v (read x) (a y) (model t) v) e f c.in-Ok.ensures.does;
       history = subst₂ (λ (x y : List ℕ). ExtendsHistories b m (model t) v (read x) (a y) (model t) v) e f c.in-Ok.ensures.history;
     }

@@ -1,9 +1,9 @@
 use Rattle.std.proofs.Common.{◌≡◌, ◌≤◌, length, take, vec_items, sym, ap, ◌∙◌, subst, arith}
 use Rattle.std.proofs.lemmas.List.{with_items_is}
-use Rattle.search.specs.Calls.{Answer}
+use Rattle.search.specs.Calls.{Answer, Does}
 use Rattle.search.specs.Calls.Call.{solve}
 use Rattle.table.specs.Shown.{model, store_in, rows_in}
-use Rattle.table.specs.CallLaws.{Done, ExtendsHistories}
+use Rattle.table.specs.CallLaws.{ExtendsHistories}
 use Rattle.histories.proofs.Finding.{place_found, read_wrote, wrote_ok, values_left}
 use Rattle.histories.proofs.perform.perform_solve.Goals as goal
 
@@ -40,7 +40,7 @@ returns-in-Ok-Found g c =
     c.truncate.ensures.items ∙ ap (take k) (with_items_is c.in_ok-values.values out (c.read.auto.out ∙ c.deref_mut.ensures.len)) in
     let a = values_left s b out c.read.result k c.in-Ok-Found.field-0 c.in-Ok-Found.field-0-is c.unwrap-count.ensures e r ∙ ap Answer.found (sym f) in
     record {
-      does = subst (λ (x : Answer). Done st m (model before) v (solve c.args.budget) x (model t) w) a c.in-Ok-Found.ensures.does;
+      does = subst (λ (x : Answer). Does st m (model before) v (solve c.args.budget) x (model t) w) a c.in-Ok-Found.ensures.does;
       history = subst (λ (x : Answer). ExtendsHistories st m (model before) v (solve c.args.budget) x (model t) w) a c.in-Ok-Found.ensures.history;
       kept = tt;
     }

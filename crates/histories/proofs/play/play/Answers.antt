@@ -12,7 +12,7 @@ loop-call-init g c =
     let H = c.in_ok-table.ensures in
     let e : progress_after H ≡ reverse (progresses_of (vec_items c.in_ok-replies.replies)) =
     none_counted g.S.Store.behaviour g.B.Bank.meaning (g.S.Store.state c.args.store) H ∙ ap (λ (ys : List Reply). reverse (progresses_of ys)) (sym c.in_ok-replies.ensures.items) in
-    (c.in_ok-replies.ensures.len, omega (arith, c.in_ok-replies.ensures.capacity), (0, (H, e)))
+    (c.in_ok-replies.ensures.len, omega (arith, c.in_ok-replies.ensures.capacity), (H, e))
 
 pub loop-call-preserved : goal.loop-call-preserved
 loop-call-preserved g c =
@@ -32,15 +32,12 @@ loop-call-preserved g c =
     let many : length ys ≡ i = omega (arith, c.loop-call.replies.ok, c.loop-call.invariant.0) in (
       omega (arith, c.push_reserved.ensures.len, c.loop-call.invariant.0),
       omega (arith, c.push_reserved.ensures.capacity, c.loop-call.invariant.1),
-      (
-        d.lost before.0,
-        one_more st m given {t = model u (d.lost before.0)} {s = store_in u} xs ys (vec_items c.push_reserved.new.self) i x (record { answer = a; progress = k }) c.loop-call-test.true many
+      one_more st m given {t = model u} {s = store_in u} xs ys (vec_items c.push_reserved.new.self) i x (record { answer = a; progress = k }) c.loop-call-test.true many
             c.call-item.is c.push_reserved.ensures.items
             (subst
-            (λ (z : Progress). Counted st m given ((call_of x, answer_of a) ∷ paired (calls_of (take i xs)) (answers_of ys)) (z ∷ reverse (progresses_of ys)) (model u (d.lost before.0)) (store_in u))
+            (λ (z : Progress). Counted st m given ((call_of x, answer_of a) ∷ paired (calls_of (take i xs)) (answers_of ys)) (z ∷ reverse (progresses_of ys)) (model u) (store_in u))
             (sym c.of.ensures)
-            (counted_then st m given (model t) (model u) (store_in t) (store_in u) (call_of x) (answer_of a) before.0 c.in_ok-perform.ensures.history d before.1)),
-      ),
+            (counted_then st m given (model t) (model u) (store_in t) (store_in u) (call_of x) (answer_of a) c.in_ok-perform.ensures.history d before)),
     )
 
 pub returns : goal.returns
@@ -50,5 +47,5 @@ returns g c =
     let t = c.loop-call.table in
     let before = c.loop-call.invariant.2 in
     let many : length ys ≡ i = omega (arith, c.loop-call.replies.ok, c.loop-call.invariant.0) in
-    all_played g.S.Store.behaviour g.B.Bank.meaning g.met.B.Bank.lawful (g.S.Store.state c.args.store) c.args.calls.now ys i (model t before.0) (store_in t) c.loop-call-test.false
-    c.loop-call.auto.call-index-end many before.1
+    all_played g.S.Store.behaviour g.B.Bank.meaning g.met.B.Bank.lawful (g.S.Store.state c.args.store) c.args.calls.now ys i (model t) (store_in t) c.loop-call-test.false
+    c.loop-call.auto.call-index-end many before

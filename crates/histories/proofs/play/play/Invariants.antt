@@ -1,4 +1,4 @@
-use Rattle.std.proofs.Common.{◌≡◌, ℕ, ◌≤◌, length, take, reverse, vec_items, vec_len, vec_capacity}
+use Rattle.std.proofs.Common.{◌≡◌, ◌≤◌, length, take, reverse, vec_items, vec_len, vec_capacity}
 use Rattle.table.specs.Shown.{model, store_in}
 use Rattle.histories.specs.CallViews.{calls_of, answers_of, progresses_of}
 use Rattle.histories.specs.Replies.{paired}
@@ -10,5 +10,4 @@ invariant-loop-call g l =
     let ys = vec_items l.replies in
     (vec_len l.replies ≡ l.call-index)
     × (length l.calls ≤ vec_capacity l.replies)
-    × ((j : ℕ)
-    × Counted g.S.Store.behaviour g.B.Bank.meaning (g.S.Store.state l.fn.store) (paired (calls_of (take l.call-index l.calls)) (answers_of ys)) (reverse (progresses_of ys)) (model l.table j) (store_in l.table))
+    × Counted g.S.Store.behaviour g.B.Bank.meaning (g.S.Store.state l.fn.store) (paired (calls_of (take l.call-index l.calls)) (answers_of ys)) (reverse (progresses_of ys)) (model l.table) (store_in l.table)
