@@ -8,7 +8,7 @@ use Rattle.stores.specs.Behaviours.{Behaviour}
 use Rattle.search.specs.Limits.{most_budget}
 use Rattle.search.specs.Calls.{Table, begun, Answer, Judgement, judged, Does}
 use Rattle.search.specs.Calls.Call.{solve}
-use Rattle.search.specs.Histories.{History, declared_voices, posted_rows}
+use Rattle.search.specs.Histories.{History, keys_lost, LeadsTo, declared_voices, posted_rows}
 use Rattle.search.specs.Results.{SolveMeans, Invariant}
 use Rattle.search.proofs.OverEvery.{invariant_holds, solve_keeps_budget, answers_hold, tables_given}
 use Rattle.sheets.specs.declared.refusal.SheetRefusal.{SheetRefusal}
@@ -17,7 +17,7 @@ use Rattle.sheets.specs.Reading.SheetReading.{accepted, refused}
 use Rattle.sheets.specs.Laws.{loaded_after}
 use Rattle.sheets.specs.Loading.{table_after, LoadAnswer, load_answer, reading_answer, LoadHistory}
 use Rattle.sheets.specs.Loading.LoadAnswer.{loaded, declined}
-use Rattle.job.specs.Texts.{table_text, report_text}
+use Rattle.job.specs.Texts.{report_text}
 use Rattle.job.specs.Planned.{most_sheet, JobHistory, Right, Planned}
 
 -- the first 20,000 bytes
@@ -34,23 +34,27 @@ abbrev IsLoaded : LoadAnswer → Type 0
 IsLoaded loaded = Unit {0}
 IsLoaded (declined number place layer) = ⊥
 
--- a report reads of the table only what its text has
-pub same_report : (a : LoadAnswer) (t u : Table) → table_text t ≡ table_text u → report_text a t ≡ report_text a u
-same_report loaded t u e = e
-same_report (declined number place layer) t u e = refl
-
 -- ---- what is shown of a job
 
 record Shown (b : Behaviour) (m : Meaning) (g : b.State) (sheet : List ℕ) (o : SheetReading) (text : List ℕ) : Type 0 where
   table : Table
   state : b.State
-  history : JobHistory b m g sheet o table state
-  invariant : Invariant m table (b.view state)
+  lost : ℕ
+  history : JobHistory b m g sheet o table state lost
+  invariant : Invariant m lost table (b.view state)
   reported : text ≡ report_text (reading_answer o) table
   right : Right m o table
 
 planned : (b : Behaviour) (m : Meaning) (g : b.State) (sheet text : List ℕ) → Shown b m g sheet (read_sheet m sheet) text → Planned b m g sheet text
-planned b m g sheet text p = record { table = p.table; state = p.state; history = p.history; invariant = p.invariant; reported = p.reported; right = p.right }
+planned b m g sheet text p = record {
+  table = p.table;
+  state = p.state;
+  lost = p.lost;
+  history = p.history;
+  invariant = p.invariant;
+  reported = p.reported;
+  right = p.right;
+}
 
 module _ (b : Behaviour) (m : Meaning) (L : Laws m) (g : b.State) (sheet text : List ℕ) where
   -- the Solve of an accepted sheet
@@ -67,7 +71,8 @@ module _ (b : Behaviour) (m : Meaning) (L : Laws m) (g : b.State) (sheet text : 
       record {
         table = u;
         state = w;
-        history = subst (λ (x : Answer). History b m g ((solve most_budget, x) ∷ calls) u w) k.answer all;
+        lost = keys_lost all;
+        history = subst (λ (x : Answer). LeadsTo b m g ((solve most_budget, x) ∷ calls) u w (keys_lost all)) k.answer (all, refl);
         invariant = invariant_holds b m L g ((solve most_budget, a) ∷ calls) u w all;
         reported = r;
         right = subst (λ (x : Answer). SolveMeans m voices rows x) k.answer
@@ -80,10 +85,10 @@ module _ (b : Behaviour) (m : Meaning) (L : Laws m) (g : b.State) (sheet text : 
   solved_job o (Err f) t u v w a k e f' l H D s = absurd (both_ways false refl k)
   solved_job (refused number place layer) (Ok y) t u v w a k e f l H D s = absurd (subst IsLoaded e tt)
   solved_job (accepted voices rows) (Ok y) t u v w a k e f l H D s =
-      planned b m g sheet text (subst (λ (o : SheetReading). Shown b m g sheet o text) f (solved voices rows t u v w a l H D s))
+      planned b m g sheet text (subst (λ (o : SheetReading). Shown b m g sheet o text) f (solved voices rows t u v w a l H.0 D s))
 
   pub declined_job : (o : SheetReading) (r : Result (Unit {0}) SheetRefusal) (t : Table) (v : b.State) → is_ok r ≡ false
-      → load_answer r ≡ reading_answer o → o ≡ read_sheet m sheet → LoadHistory b m g [] sheet o t v → Invariant m t (b.view v)
+      → load_answer r ≡ reading_answer o → o ≡ read_sheet m sheet → LoadHistory b m g [] sheet o t v → Invariant m 0 t (b.view v)
       → text ≡ report_text (load_answer r) t → Planned b m g sheet text
   declined_job o (Ok y) t v k e f H z s = absurd (both_ways true k refl)
   declined_job (accepted voices rows) (Err f') t v k e f H z s = absurd (subst IsLoaded (sym e) tt)
@@ -91,7 +96,8 @@ module _ (b : Behaviour) (m : Meaning) (L : Laws m) (g : b.State) (sheet text : 
       planned b m g sheet text (subst (λ (o : SheetReading). Shown b m g sheet o text) f (record {
         table = t;
         state = v;
-        history = H;
+        lost = 0;
+        history = (H, refl);
         invariant = z;
         reported = s ∙ ap (λ (x : LoadAnswer). report_text x t) e;
         right = tt;

@@ -5,7 +5,7 @@ use Rattle.sheets.specs.Loading.{load_answer}
 use Rattle.sheets.specs.Reading.{read_sheet}
 use Rattle.job.specs.Texts.{report_text}
 use Rattle.job.specs.Planned.{Planned}
-use Rattle.job.proofs.Jobs.{sheet_front, same_report, solved_job, declined_job}
+use Rattle.job.proofs.Jobs.{sheet_front, solved_job, declined_job}
 use Rattle.job.proofs.plan.Goals as goal
 use Rattle.job.proofs.plan.Goals.{then-is_ok, else-is_ok}
 
@@ -21,18 +21,18 @@ returns g c =
     let t = c.load-answer.new.table in
     let given = g.S.Store.state c.args.store in
     let extends = c.load-answer.ensures.history in
-    let history = extends.history given [] 0 c.in_ok-table.ensures in
+    let history = extends.history given [] c.in_ok-table.ensures in
     IfOk-weaker c.written_report.result _ _ (λ text h.
     subst (λ x. Planned st m given x text.items) (sheet_front c.args.sheet.now n few)
     (elim c.if-is_ok.branch [
       | then-is_ok w ↦
           let u = w.solve.new.self in
           let d = w.solve.ensures.does in
-          solved_job st m L given sheet text.items (read_sheet m sheet) r (model t 0) (model u (d.lost 0)) (store_in t) (store_in u)
-          (solve_answer w.solve.result (found_in u)) (sym c.is_ok.ensures.value ∙ w.if-is_ok.true) c.load-answer.ensures.value refl c.load-answer.ensures.after.table history (d.does 0)
-          (h ∙ ap (λ x. report_text (load_answer r) (model x 0)) w.table-is ∙ same_report (load_answer r) (model u 0) (model u (d.lost 0)) refl)
+          solved_job st m L given sheet text.items (read_sheet m sheet) r (model t) (model u) (store_in t) (store_in u)
+          (solve_answer w.solve.result (found_in u)) (sym c.is_ok.ensures.value ∙ w.if-is_ok.true) c.load-answer.ensures.value refl c.load-answer.ensures.after.table history d
+          (h ∙ ap (λ x. report_text (load_answer r) (model x)) w.table-is)
       | else-is_ok w ↦
-          declined_job st m L given sheet text.items (read_sheet m sheet) r (model t 0) (store_in t)
-          (sym c.is_ok.ensures.value ∙ w.if-is_ok.false) c.load-answer.ensures.value refl history (extends.invariant given [] 0 c.in_ok-table.ensures)
-          (h ∙ ap (λ x. report_text (load_answer r) (model x 0)) w.table-is)
+          declined_job st m L given sheet text.items (read_sheet m sheet) r (model t) (store_in t)
+          (sym c.is_ok.ensures.value ∙ w.if-is_ok.false) c.load-answer.ensures.value refl history (extends.invariant given [] c.in_ok-table.ensures)
+          (h ∙ ap (λ x. report_text (load_answer r) (model x)) w.table-is)
     ])) c.written_report.ensures

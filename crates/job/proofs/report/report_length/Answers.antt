@@ -8,4 +8,4 @@ use Rattle.job.proofs.report.report_length.Goals as goal
 pub returns : goal.returns
 returns g c =
     let t = c.args.table.now in
-    omega (arith, c.place.ensures, c.write_report.ensures.place, c.new-writer.ensures.place, report_fits (load_answer c.args.answer) (model t 0) (found_few t))
+    omega (arith, c.place.ensures, c.write_report.ensures.place, c.new-writer.ensures.place, report_fits (load_answer c.args.answer) (model t) (found_few t))
