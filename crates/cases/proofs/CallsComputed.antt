@@ -28,9 +28,13 @@ use Rattle.cases.proofs.Playing.{formed, replay_calls, led}
 
 -- ---- searches
 
+-- as many keys are lost as is written there, and these are held
+abbrev same_keys : {S : Type 0} → SearchCase → Played S → List (List ℕ) → Bool
+same_keys c p held = eqb p.lost c.lost && same_list same held c.keys
+
 -- what has come of a case's calls is what is written there, with these keys held
 abbrev agrees : {S : Type 0} → SearchCase → Played S → List (List ℕ) → Bool
-agrees c p held = same_list same_answer (answers_of p.calls) (answers_of c.calls) && (same_table p.table c.table && same_list same held c.keys)
+agrees c p held = same_list same_answer (answers_of p.calls) (answers_of c.calls) && (same_table p.table c.table && same_keys c p held)
 
 module _ (store : Behaviour) (d : Decided store) (g : store.State) where
   -- what comes of them
@@ -45,9 +49,11 @@ module _ (store : Behaviour) (d : Decided store) (g : store.State) where
       let p : Played store.State = played c in
       let held = (store.view p.state).held in
       let f = and_parts (list_all formed (calls_in c.calls)) (agrees c p held) e in
-      let a = and_parts (same_list same_answer (answers_of p.calls) (answers_of c.calls)) (same_table p.table c.table && same_list same held c.keys) f.1 in
-      let t = and_parts (same_table p.table c.table) (same_list same held c.keys) a.1 in
-      led store d g c f.0 (same_answers_is p.calls c.calls (replay_calls store d c.bank g (calls_in c.calls)) a.0) (same_table_is p.table c.table t.0) (same_list_is same same_is held c.keys t.1)
+      let a = and_parts (same_list same_answer (answers_of p.calls) (answers_of c.calls)) (same_table p.table c.table && same_keys c p held) f.1 in
+      let t = and_parts (same_table p.table c.table) (same_keys c p held) a.1 in
+      let k = and_parts (eqb p.lost c.lost) (same_list same held c.keys) t.1 in
+      led store d g c f.0 (same_answers_is p.calls c.calls (replay_calls store d c.bank g (calls_in c.calls)) a.0) (same_table_is p.table c.table t.0)
+      (eqb-true p.lost c.lost k.0) (same_list_is same same_is held c.keys k.1)
 
 abbrev holds_over : CaseStore → SearchCase → Bool
 holds_over (shelf_of words) c = reached_by shelf shelf_decided (record { held = []; room = words }) c

@@ -5,9 +5,9 @@ use Rattle.std.specs.List.{list_all}
 use Rattle.rows.specs.Rows.{Meaning}
 use Rattle.rows.specs.Bytes.{Bytes}
 use Rattle.stores.specs.Behaviours.{Behaviour, Decided}
-use Rattle.search.specs.Calls.{Table, Call, Answer, Formed, judged, Does}
+use Rattle.search.specs.Calls.{Table, Call, Answer, Formed, judged, Does, lost_after}
 use Rattle.search.specs.Calls.Call.{declare, post, solve, read, wipe}
-use Rattle.search.specs.Histories.{History, calls_in}
+use Rattle.search.specs.Histories.{History, LeadsTo, calls_in}
 use Rattle.search.specs.CallOutcomes.{CallOutcome}
 use Rattle.search.proofs.OutcomeFacts.{comes, does_is, one_outcome, Played, play, replay}
 use Rattle.cases.specs.SearchCases.{SearchCase, SearchHolds}
@@ -38,20 +38,22 @@ formed_so wipe h = tt
 module _ (store : Behaviour) (d : Decided store) (m : Meaning) (g : store.State) where
   -- there is a history that comes to this
   abbrev Real : Played store.State → Type 0
-  Real p = History store m g p.calls p.table p.state
+  Real p = LeadsTo store m g p.calls p.table p.state p.lost
 
-  does_so : (t : Table) (v : store.State) (c : Call) (r : Answer × Table × store.State) → comes store d m t v c (judged m t c) ≡ r → Does store m t v c r.0 r.1 r.2
-  does_so t v c r e =
+  does_so : (i : ℕ) (t : Table) (v : store.State) (c : Call) (r : Answer × Table × store.State × ℕ) → comes store d m i t v c (judged m t c) ≡ r
+      → (D : Does store m t v c r.0 r.1 r.2) × (lost_after D i ≡ r.3)
+  does_so i t v c r e =
       let o : CallOutcome store m t v c = (one_outcome store d m t v c).0 in
-      subst (λ (x : Answer × Table × store.State). Does store m t v c x.0 x.1 x.2) (sym (does_is store d m o.does) ∙ e) o.does
+      subst (λ (x : Answer × Table × store.State × ℕ). (D : Does store m t v c x.0 x.1 x.2) × (lost_after D i ≡ x.3)) (sym (does_is store d m o.does i) ∙ e) (o.does, refl)
 
   play_real : (c : Call) (p : Played store.State) → Formed c → Real p → Real (play store d m g c p)
-  play_real c p f h =
-      let r = comes store d m p.table p.state c (judged m p.table c) in
-      History.then p.calls p.table r.1 p.state r.2 c r.0 h f (does_so p.table p.state c r refl)
+  play_real c p f (H, e) =
+      let r = comes store d m p.lost p.table p.state c (judged m p.table c) in
+      let D = does_so p.lost p.table p.state c r refl in
+      (History.then p.calls p.table r.1 p.state r.2 c r.0 H f D.0, ap (lost_after D.0) e ∙ D.1)
 
   replay_real : (cs : List Call) → list_all formed cs ≡ true → Real (replay store d m g cs)
-  replay_real [] f = History.made (d.emptied g) (d.empties g)
+  replay_real [] f = (History.made (d.emptied g) (d.empties g), refl)
   replay_real (c ∷ cs) f =
       let fs = and_parts (formed c) (list_all formed cs) f in play_real c (replay store d m g cs) (formed_so c fs.0) (replay_real cs fs.1)
 
@@ -60,14 +62,16 @@ module _ (store : Behaviour) (d : Decided store) (m : Meaning) (g : store.State)
   replay_calls [] = refl
   replay_calls (c ∷ cs) = ap (λ (x : List Call). c ∷ x) (replay_calls cs)
 
--- a history whose calls, played, have these answers and come to this table and these keys
+-- a history whose calls, played, have these answers and come to this table, so many keys lost and these keys held
 pub led : (store : Behaviour) (d : Decided store) (g : store.State) (c : SearchCase) → list_all formed (calls_in c.calls) ≡ true
     → (replay store d c.bank g (calls_in c.calls)).calls ≡ c.calls → (replay store d c.bank g (calls_in c.calls)).table ≡ c.table
-    → (store.view (replay store d c.bank g (calls_in c.calls)).state).held ≡ c.keys → SearchHolds store g c
-led store d g c f a b k =
+    → (replay store d c.bank g (calls_in c.calls)).lost ≡ c.lost → (store.view (replay store d c.bank g (calls_in c.calls)).state).held ≡ c.keys
+    → SearchHolds store g c
+led store d g c f a b l k =
     let p = replay store d c.bank g (calls_in c.calls) in
     record {
       state = p.state;
-      history = subst₂ (λ (x : List (Call × Answer)) (y : Table). History store c.bank g x y p.state) a b (replay_real store d c.bank g (calls_in c.calls) f);
+      history = subst (LeadsTo store c.bank g c.calls c.table p.state) l
+          (subst₂ (λ (x : List (Call × Answer)) (y : Table). LeadsTo store c.bank g x y p.state p.lost) a b (replay_real store d c.bank g (calls_in c.calls) f));
       holds = k;
     }

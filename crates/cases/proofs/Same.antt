@@ -124,7 +124,7 @@ abbrev same_given : Table → Table → Bool
 same_given t u = same t.voices u.voices && same_list same_row t.rows u.rows
 
 abbrev same_counts : Table → Table → Bool
-same_counts t u = eqb t.opened u.opened && (eqb t.exhausted u.exhausted && eqb t.lost u.lost)
+same_counts t u = eqb t.opened u.opened && eqb t.exhausted u.exhausted
 
 abbrev pub same_table : Table → Table → Bool
 same_table t u = same_given t u && (same_place t.place u.place && same_counts t u)
@@ -134,8 +134,7 @@ same_table_is t u e =
     let p = and_parts (same_given t u) (same_place t.place u.place && same_counts t u) e in
     let g = and_parts (same t.voices u.voices) (same_list same_row t.rows u.rows) p.0 in
     let q = and_parts (same_place t.place u.place) (same_counts t u) p.1 in
-    let n = and_parts (eqb t.opened u.opened) (eqb t.exhausted u.exhausted && eqb t.lost u.lost) q.1 in
-    let k = and_parts (eqb t.exhausted u.exhausted) (eqb t.lost u.lost) n.1 in
+    let n = and_parts (eqb t.opened u.opened) (eqb t.exhausted u.exhausted) q.1 in
     ap₂ {C = Table} (λ v r. record t { voices = v; rows = r }) (same_is t.voices u.voices g.0) (same_list_is same_row same_row_is t.rows u.rows g.1)
     ∙ ap₂ {C = Table} (λ p o. record t { voices = u.voices; rows = u.rows; place = p; opened = o }) (same_place_is t.place u.place q.0) (eqb-true t.opened u.opened n.0)
-    ∙ ap₂ {C = Table} (λ e l. record u { exhausted = e; lost = l }) (eqb-true t.exhausted u.exhausted k.0) (eqb-true t.lost u.lost k.1)
+    ∙ ap (λ e. record u { exhausted = e }) (eqb-true t.exhausted u.exhausted n.1)

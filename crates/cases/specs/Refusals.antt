@@ -46,7 +46,7 @@ with_long_rows n k = begun (replicate 32 6) (long_rows n k)
 
 -- the table of no voices and no rows, with its search at this place and so many nodes opened
 abbrev pub empty_at : Place → ℕ → Table
-empty_at place opened = table_with [] [] place opened 0 0
+empty_at place opened = table_with [] [] place opened 0
 
 -- a search that is not over
 abbrev pub unfinished : Place
@@ -173,14 +173,14 @@ RefusalsHold = All CallHolds refusals
 abbrev pub limits : List SearchCase
 limits =
     -- 80 voices
-    calls_over large (declares 80) (with_voices 80) []
-    ∷ calls_over large ((declare 6, refused 11) ∷ declares 80) (with_voices 80) []
+    calls_over large (declares 80) (with_voices 80) 0 []
+    ∷ calls_over large ((declare 6, refused 11) ∷ declares 80) (with_voices 80) 0 []
     -- 120 rows
-    ∷ calls_over large (posts 120 1 ++ declares 1) (with_short_rows 120) []
-    ∷ calls_over large ((post (first_differ 1), refused 12) ∷ posts 120 1 ++ declares 1) (with_short_rows 120) []
+    ∷ calls_over large (posts 120 1 ++ declares 1) (with_short_rows 120) 0 []
+    ∷ calls_over large ((post (first_differ 1), refused 12) ∷ posts 120 1 ++ declares 1) (with_short_rows 120) 0 []
     -- 8,192 bytes
-    ∷ calls_over large full_history full_table []
-    ∷ calls_over large ((post (first_differ 1), refused 12) ∷ full_history) full_table []
+    ∷ calls_over large full_history full_table 0 []
+    ∷ calls_over large ((post (first_differ 1), refused 12) ∷ full_history) full_table 0 []
     ∷ []
 
 -- The limits can be reached, and not passed.

@@ -5,27 +5,32 @@ use Rattle.stores.specs.Behaviours.{Behaviour}
 use Rattle.stores.specs.Bare as stores
 use Rattle.stores.specs.ShelfLaws.{shelf}
 use Rattle.search.specs.Calls.{Table, Call, Answer}
-use Rattle.search.specs.Histories.{History}
+use Rattle.search.specs.Histories.{LeadsTo}
 use Rattle.cases.specs.CaseRows.{differing}
 use Rattle.cases.specs.Tables.{CaseStore}
 use Rattle.cases.specs.Tables.CaseStore.{shelf_of, bare}
 
--- calls over a store, of rows of a bank, each with its answer, the newest first; and the table and the keys that are to come of them
+-- calls over a store, of rows of a bank, each with its answer, the newest first; and what is to come
+-- of them: the table, how many keys the store has lost since it was emptied, and the keys that it
+-- then holds
 pub record SearchCase : Type 0 where
   pub store : CaseStore
   pub bank : Meaning
   pub calls : List (Call × Answer)
   pub table : Table
+  pub lost : ℕ
   pub keys : List (List ℕ)
 
 -- the case of calls over this store, of rows of the bank A
-abbrev pub calls_over : CaseStore → List (Call × Answer) → Table → List (List ℕ) → SearchCase
-calls_over store calls table keys = record { store = store; bank = differing; calls = calls; table = table; keys = keys }
+abbrev pub calls_over : CaseStore → List (Call × Answer) → Table → ℕ → List (List ℕ) → SearchCase
+calls_over store calls table lost keys =
+    record { store = store; bank = differing; calls = calls; table = table; lost = lost; keys = keys }
 
--- over a store with this behaviour that Make got in the state g, the calls, so answered, lead to this table, and the store then holds these keys
+-- over a store with this behaviour that Make got in the state g, the calls, so answered, lead to
+-- this table with so many keys lost, and the store then holds these keys
 pub record SearchHolds (b : Behaviour) (g : b.State) (c : SearchCase) : Type 0 where
   pub state : b.State
-  pub history : History b c.bank g c.calls c.table state
+  pub history : LeadsTo b c.bank g c.calls c.table state c.lost
   pub holds : (b.view state).held ≡ c.keys
 
 -- a shelf that may use so many words and holds no key, or the bare store

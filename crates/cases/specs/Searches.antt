@@ -1,5 +1,6 @@
--- The cases of searches from Make on, each of which the checker computes. A set is written as a number: {1,2} is 6, {1,3} is 10, {3,4} is 24. The newest call
--- stands first; the last three numbers of a table are the nodes opened, those exhausted and the keys lost.
+-- Searches from Make on, each of which the checker computes. A set is written as a number: {1,2} is
+-- 6, {1,3} is 10, {3,4} is 24. The newest call stands first; the last two numbers of a table are the
+-- nodes opened and those exhausted, and the number behind it is how many keys were lost.
 use Rattle.std.specs.Prelude.{ℕ, List, [], ◌∷◌, All}
 use Rattle.search.specs.Search.{Level, Place}
 use Rattle.search.specs.Search.Place.{fresh, going}
@@ -16,8 +17,8 @@ use Rattle.cases.specs.SearchCases.{SearchCase, calls_over, SearchCaseHolds}
 abbrev pub three_posted : List (Call × Answer)
 three_posted = (post (first_differ 3), done) ∷ (declare 6, done) ∷ (declare 6, done) ∷ (declare 6, done) ∷ []
 
-abbrev pub three_at : Place → ℕ → ℕ → ℕ → Table
-three_at place opened exhausted lost = table_with (6 ∷ 6 ∷ 6 ∷ []) (differs_3 ∷ []) place opened exhausted lost
+abbrev pub three_at : Place → ℕ → ℕ → Table
+three_at place opened exhausted = table_with (6 ∷ 6 ∷ 6 ∷ []) (differs_3 ∷ []) place opened exhausted
 
 -- the root, with its value 2 left to try
 abbrev pub three_root : Level
@@ -28,16 +29,16 @@ three_root = record { sets = 6 ∷ 6 ∷ 6 ∷ []; voice = 0; left = 4 }
 abbrev pub five_posted : List (Call × Answer)
 five_posted = (post (first_differ 5), done) ∷ (declare 24, done) ∷ (declare 24, done) ∷ (declare 24, done) ∷ (declare 6, done) ∷ (declare 6, done) ∷ []
 
-abbrev pub five_at : Place → ℕ → ℕ → ℕ → Table
-five_at place opened exhausted lost = table_with (6 ∷ 6 ∷ 24 ∷ 24 ∷ 24 ∷ []) (differs_5 ∷ []) place opened exhausted lost
+abbrev pub five_at : Place → ℕ → ℕ → Table
+five_at place opened exhausted = table_with (6 ∷ 6 ∷ 24 ∷ 24 ∷ 24 ∷ []) (differs_5 ∷ []) place opened exhausted
 
 -- ---- {1,3} {1,3} that differ
 
 abbrev pub two_posted : List (Call × Answer)
 two_posted = (post (first_differ 2), done) ∷ (declare 10, done) ∷ (declare 10, done) ∷ []
 
-abbrev pub two_at : Place → ℕ → ℕ → ℕ → Table
-two_at place opened exhausted lost = table_with (10 ∷ 10 ∷ []) (differs_2 ∷ []) place opened exhausted lost
+abbrev pub two_at : Place → ℕ → ℕ → Table
+two_at place opened exhausted = table_with (10 ∷ 10 ∷ []) (differs_2 ∷ []) place opened exhausted
 
 -- solved with 1 node, read too early, solved, solved again, read into a buffer that is too short and into a longer one
 abbrev pub two_read : List (Call × Answer)
@@ -67,33 +68,33 @@ root_key = 6 ∷ 6 ∷ 24 ∷ 24 ∷ 24 ∷ 1 ∷ 0 ∷ []
 abbrev pub searches : List SearchCase
 searches =
     -- three voices have no room at two values: over a large shelf, and over the bare store
-    calls_over large ((solve 9, none) ∷ three_posted) (three_at Place.none 3 1 0) (three_key ∷ [])
-    ∷ calls_over bare ((solve 9, none) ∷ three_posted) (three_at Place.none 3 1 1) []
+    calls_over large ((solve 9, none) ∷ three_posted) (three_at Place.none 3 1) 0 (three_key ∷ [])
+    ∷ calls_over bare ((solve 9, none) ∷ three_posted) (three_at Place.none 3 1) 1 []
     -- a budget of just as many nodes ends the search; one of 2 stops after the first child, and 1 more ends it with the same counts
-    ∷ calls_over large ((solve 3, none) ∷ three_posted) (three_at Place.none 3 1 0) (three_key ∷ [])
-    ∷ calls_over large ((solve 2, stopped) ∷ three_posted) (three_at (going three_root []) 2 0 0) []
-    ∷ calls_over large ((solve 1, none) ∷ (solve 2, stopped) ∷ three_posted) (three_at Place.none 3 1 0) (three_key ∷ [])
+    ∷ calls_over large ((solve 3, none) ∷ three_posted) (three_at Place.none 3 1) 0 (three_key ∷ [])
+    ∷ calls_over large ((solve 2, stopped) ∷ three_posted) (three_at (going three_root []) 2 0) 0 []
+    ∷ calls_over large ((solve 1, none) ∷ (solve 2, stopped) ∷ three_posted) (three_at Place.none 3 1) 0 (three_key ∷ [])
     -- both children of the root have one key: a store that holds it saves the search of the second
-    ∷ calls_over large ((solve 9, none) ∷ five_posted) (five_at Place.none 5 2 0) (child_key ∷ root_key ∷ [])
-    ∷ calls_over bare ((solve 9, none) ∷ five_posted) (five_at Place.none 7 3 3) []
+    ∷ calls_over large ((solve 9, none) ∷ five_posted) (five_at Place.none 5 2) 0 (child_key ∷ root_key ∷ [])
+    ∷ calls_over bare ((solve 9, none) ∷ five_posted) (five_at Place.none 7 3) 3 []
     -- room for one key is enough, and a word less is not
-    ∷ calls_over (shelf_of 8) ((solve 9, none) ∷ five_posted) (five_at Place.none 5 2 1) (child_key ∷ [])
-    ∷ calls_over (shelf_of 7) ((solve 9, none) ∷ five_posted) (five_at Place.none 7 3 3) []
+    ∷ calls_over (shelf_of 8) ((solve 9, none) ∷ five_posted) (five_at Place.none 5 2) 1 (child_key ∷ [])
+    ∷ calls_over (shelf_of 7) ((solve 9, none) ∷ five_posted) (five_at Place.none 7 3) 3 []
     -- the empty table has one placing, of no values, and it can be read
-    ∷ calls_over large ((solve 9, found []) ∷ []) (table_with [] [] (Place.found []) 1 0 0) []
-    ∷ calls_over bare ((solve 9, found []) ∷ []) (table_with [] [] (Place.found []) 1 0 0) []
-    ∷ calls_over large ((read [], wrote 0 []) ∷ (solve 1, found []) ∷ []) (table_with [] [] (Place.found []) 1 0 0) []
+    ∷ calls_over large ((solve 9, found []) ∷ []) (table_with [] [] (Place.found []) 1 0) 0 []
+    ∷ calls_over bare ((solve 9, found []) ∷ []) (table_with [] [] (Place.found []) 1 0) 0 []
+    ∷ calls_over large ((read [], wrote 0 []) ∷ (solve 1, found []) ∷ []) (table_with [] [] (Place.found []) 1 0) 0 []
     -- the least placing of two voices: over a large shelf, and over the bare store
-    ∷ calls_over large ((solve 9, found (1 ∷ 3 ∷ [])) ∷ two_posted) (two_at (Place.found (1 ∷ 3 ∷ [])) 2 0 0) []
-    ∷ calls_over bare ((solve 9, found (1 ∷ 3 ∷ [])) ∷ two_posted) (two_at (Place.found (1 ∷ 3 ∷ [])) 2 0 0) []
+    ∷ calls_over large ((solve 9, found (1 ∷ 3 ∷ [])) ∷ two_posted) (two_at (Place.found (1 ∷ 3 ∷ [])) 2 0) 0 []
+    ∷ calls_over bare ((solve 9, found (1 ∷ 3 ∷ [])) ∷ two_posted) (two_at (Place.found (1 ∷ 3 ∷ [])) 2 0) 0 []
     -- it is told again and read with no node more, and a declined call alters nothing
-    ∷ calls_over large two_read (two_at (Place.found (1 ∷ 3 ∷ [])) 2 0 0) []
-    ∷ calls_over large ((declare 0, refused 10) ∷ two_read) (two_at (Place.found (1 ∷ 3 ∷ [])) 2 0 0) []
+    ∷ calls_over large two_read (two_at (Place.found (1 ∷ 3 ∷ [])) 2 0) 0 []
+    ∷ calls_over large ((declare 0, refused 10) ∷ two_read) (two_at (Place.found (1 ∷ 3 ∷ [])) 2 0) 0 []
     -- another voice, and a wipe, begin again
-    ∷ calls_over large ((declare 6, done) ∷ two_read) (table_with (10 ∷ 10 ∷ 6 ∷ []) (differs_2 ∷ []) fresh 0 0 0) []
-    ∷ calls_over large ((wipe, done) ∷ two_read) (table_with [] [] fresh 0 0 0) []
+    ∷ calls_over large ((declare 6, done) ∷ two_read) (table_with (10 ∷ 10 ∷ 6 ∷ []) (differs_2 ∷ []) fresh 0 0) 0 []
+    ∷ calls_over large ((wipe, done) ∷ two_read) (table_with [] [] fresh 0 0) 0 []
     -- a row more begins the search again and empties the store
-    ∷ calls_over large ((post (first_differ 2), done) ∷ (solve 9, none) ∷ five_posted) (table_with (6 ∷ 6 ∷ 24 ∷ 24 ∷ 24 ∷ []) (differs_5 ∷ differs_2 ∷ []) fresh 0 0 0) []
+    ∷ calls_over large ((post (first_differ 2), done) ∷ (solve 9, none) ∷ five_posted) (table_with (6 ∷ 6 ∷ 24 ∷ 24 ∷ 24 ∷ []) (differs_5 ∷ differs_2 ∷ []) fresh 0 0) 0 []
     ∷ []
 
 -- Each case holds.

@@ -28,7 +28,7 @@ first_differ n = 0x41 ∷ n ∷ members_from 0 n
 
 -- ---- tables
 
--- with these voices and rows, the place that the search has reached, and the nodes opened and exhausted and the keys lost
-abbrev pub table_with : List ℕ → List RowData → Place → ℕ → ℕ → ℕ → Table
-table_with voices rows place opened exhausted lost =
-    record { voices = voices; rows = rows; place = place; opened = opened; exhausted = exhausted; lost = lost }
+-- with these voices and rows, the place that the search has reached, and the nodes opened and exhausted
+abbrev pub table_with : List ℕ → List RowData → Place → ℕ → ℕ → Table
+table_with voices rows place opened exhausted =
+    record { voices = voices; rows = rows; place = place; opened = opened; exhausted = exhausted }
