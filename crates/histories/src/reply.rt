@@ -22,7 +22,7 @@ pub struct Progress {
 impl Progress {
     /// How far the table's search is.
     pub fn of<B: Bank, S: Store>(table: &Table<B, S>) -> Progress
-        ensures { result ≡ progress_of (model table.now 0) }
+        ensures { result ≡ progress_of (model table.now) }
     {
         Progress {
             outcome: table.outcome(),

@@ -30,7 +30,7 @@ fn written_report<B: Bank, S: Store>(
     answer: Result<(), SheetRefusal>,
     table: &Table<B, S>,
 ) -> Result<Vec<u8>, AllocError>
-    ensures { IfOk result (λ text. text.items ≡ report_text (load_answer answer) (model table.now 0)) }
+    ensures { IfOk result (λ text. text.items ≡ report_text (load_answer answer) (model table.now)) }
 {
     let mut text = vec![in heap; 0u8; report_length(answer, table)]?;
     let _ = report(answer, table, &mut text);

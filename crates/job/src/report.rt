@@ -28,7 +28,7 @@ fn read_values<'a, B: Bank, S: Store>(
 }
 
 fn write_table<B: Bank, S: Store>(table: &Table<B, S>, writer: &mut Writer)
-    ensures { Wrote (table_text (model table.now 0)) writer.old writer.new }
+    ensures { Wrote (table_text (model table.now)) writer.old writer.new }
 {
     let opened = table.opened();
     let exhausted = table.exhausted();
@@ -44,7 +44,7 @@ fn write_report<B: Bank, S: Store>(
     table: &Table<B, S>,
     writer: &mut Writer,
 )
-    ensures { Wrote (report_text (load_answer answer) (model table.now 0)) writer.old writer.new }
+    ensures { Wrote (report_text (load_answer answer) (model table.now)) writer.old writer.new }
 {
     match answer {
         Ok(()) => write_table(table, writer),
@@ -57,7 +57,7 @@ pub fn report_length<B: Bank, S: Store>(
     answer: Result<(), SheetRefusal>,
     table: &Table<B, S>,
 ) -> usize
-    ensures { result ≡ length (report_text (load_answer answer) (model table.now 0)) }
+    ensures { result ≡ length (report_text (load_answer answer) (model table.now)) }
 {
     let mut writer = Writer::new(&mut []);
     write_report(answer, table, &mut writer);
@@ -70,8 +70,8 @@ pub fn report<B: Bank, S: Store>(
     table: &Table<B, S>,
     out: &mut [u8],
 ) -> Result<usize, Refusal>
-    ensures value { result ≡ written_answer (report_text (load_answer answer) (model table.now 0)) out.old }
-    ensures after { out.new ≡ buffer_after (report_text (load_answer answer) (model table.now 0)) out.old }
+    ensures value { result ≡ written_answer (report_text (load_answer answer) (model table.now)) out.old }
+    ensures after { out.new ≡ buffer_after (report_text (load_answer answer) (model table.now)) out.old }
 {
     let length = report_length(answer, table);
     if out.len() < length {

@@ -35,8 +35,8 @@ fn read_voice<B: Bank, S: Store>(
     table: &mut Table<B, S>,
     rest: &[u8],
 ) -> Result<Option<usize>, RecordRefusal>
-    requires { Unsearched (model table.old 0) }
-    ensures { RecordRead S.Store.behaviour B.Bank.meaning (model table.old 0) (store_in table.old) (read_voice B.Bank.meaning (model table.old 0).voices (model table.old 0).rows rest.now) result (model table.new 0) (store_in table.new) }
+    requires { Unsearched (model table.old) }
+    ensures { RecordRead S.Store.behaviour B.Bank.meaning (model table.old) (store_in table.old) (read_voice B.Bank.meaning (model table.old).voices (model table.old).rows rest.now) result (model table.new) (store_in table.new) }
 {
     if !table.rows().is_empty() {
         return Err(RecordRefusal::LateVoice);
@@ -53,8 +53,8 @@ fn read_row<B: Bank, S: Store>(
     table: &mut Table<B, S>,
     bytes: &[u8],
 ) -> Result<Option<usize>, RecordRefusal>
-    requires { Unsearched (model table.old 0) }
-    ensures { RecordRead S.Store.behaviour B.Bank.meaning (model table.old 0) (store_in table.old) (read_row B.Bank.meaning (model table.old 0).voices (model table.old 0).rows bytes.now) result (model table.new 0) (store_in table.new) }
+    requires { Unsearched (model table.old) }
+    ensures { RecordRead S.Store.behaviour B.Bank.meaning (model table.old) (store_in table.old) (read_row B.Bank.meaning (model table.old).voices (model table.old).rows bytes.now) result (model table.new) (store_in table.new) }
 {
     let row = front_row::<B>(bytes);
     table.post(row)?;
@@ -66,8 +66,8 @@ fn read_record<B: Bank, S: Store>(
     table: &mut Table<B, S>,
     bytes: &[u8],
 ) -> Result<Option<usize>, RecordRefusal>
-    requires { Unsearched (model table.old 0) }
-    ensures { RecordRead S.Store.behaviour B.Bank.meaning (model table.old 0) (store_in table.old) (read_record B.Bank.meaning (model table.old 0).voices (model table.old 0).rows bytes.now) result (model table.new 0) (store_in table.new) }
+    requires { Unsearched (model table.old) }
+    ensures { RecordRead S.Store.behaviour B.Bank.meaning (model table.old) (store_in table.old) (read_record B.Bank.meaning (model table.old).voices (model table.old).rows bytes.now) result (model table.new) (store_in table.new) }
 {
     match bytes {
         [] => Err(RecordRefusal::NoRecord),
@@ -80,8 +80,8 @@ fn read_record<B: Bank, S: Store>(
 
 // Reads records until the sheet ends, or one is faulty.
 fn read_records<B: Bank, S: Store>(table: &mut Table<B, S>, bytes: &[u8]) -> Result<(), SheetRefusal>
-    requires { model table.old 0 ≡ empty }
-    ensures { RecordsRead S.Store.behaviour B.Bank.meaning bytes.now (store_in table.old) (model table.new 0) (store_in table.new) (read_sheet B.Bank.meaning bytes.now) result }
+    requires { model table.old ≡ empty }
+    ensures { RecordsRead S.Store.behaviour B.Bank.meaning bytes.now (store_in table.old) (model table.new) (store_in table.new) (read_sheet B.Bank.meaning bytes.now) result }
 {
     let mut rest = bytes;
     loop {
@@ -110,9 +110,9 @@ fn wipe_declined<B: Bank, S: Store>(table: &mut Table<B, S>, res: &Result<(), Sh
 // voices and no rows.
 pub fn load<B: Bank, S: Store>(table: &mut Table<B, S>, bytes: &[u8]) -> Result<(), SheetRefusal>
     ensures value { load_answer result ≡ reading_answer (read_sheet B.Bank.meaning bytes.now) }
-    ensures after { LoadLeaves S.Store.behaviour B.Bank.meaning bytes.now (store_in table.old) (model table.new 0) (store_in table.new) }
+    ensures after { LoadLeaves S.Store.behaviour B.Bank.meaning bytes.now (store_in table.old) (model table.new) (store_in table.new) }
     ensures back { LoadBack (read_sheet B.Bank.meaning bytes.now) bytes.now (sheet_of table.new) }
-    ensures history { LoadExtends S.Store.behaviour B.Bank.meaning (model table.old) (store_in table.old) bytes.now (model table.new 0) (store_in table.new) }
+    ensures history { LoadExtends S.Store.behaviour B.Bank.meaning (model table.old) (store_in table.old) bytes.now (model table.new) (store_in table.new) }
 {
     table.wipe();
     let result = read_records(table, bytes);

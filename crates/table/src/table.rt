@@ -179,8 +179,8 @@ impl<B: Bank, S: Store> Table<B, S> {
         ensures history { CallExtends self.old (Call.solve budget)
             (solve_answer result (found_in self.new)) self.new }
         ensures declined { OnErr result (self.new ≡ self.old) }
-        ensures onward { (model self.old 0).opened ≤ (model self.new 0).opened }
-        ensures budget { (model self.new 0).opened ≤ (model self.old 0).opened + budget }
+        ensures onward { (model self.old).opened ≤ (model self.new).opened }
+        ensures budget { (model self.new).opened ≤ (model self.old).opened + budget }
     {
         if budget == 0 || budget > MOST_BUDGET {
             return Err(Refusal::BudgetRange);
@@ -202,28 +202,28 @@ impl<B: Bank, S: Store> Table<B, S> {
 
     // Whether the search is over.
     fn is_over(&self) -> bool
-        ensures { result ≡ over (model self.now 0).place }
+        ensures { result ≡ over (model self.now).place }
     {
         self.search.is_over()
     }
 
     /// How many nodes the search has opened since it last began.
     pub fn opened(&self) -> u64
-        ensures { result ≡ (model self.now 0).opened }
+        ensures { result ≡ (model self.now).opened }
     {
         self.search.opened()
     }
 
     /// How many nodes were exhausted since the search last began: all their children failed.
     pub fn exhausted(&self) -> u64
-        ensures { result ≡ (model self.now 0).exhausted }
+        ensures { result ≡ (model self.now).exhausted }
     {
         self.search.exhausted()
     }
 
     /// What the search has come to so far; it opens no node.
     pub fn outcome(&self) -> Outcome
-        ensures { result ≡ outcome_of (model self.now 0).place }
+        ensures { result ≡ outcome_of (model self.now).place }
     {
         self.search.outcome()
     }
@@ -252,7 +252,7 @@ impl<B: Bank, S: Store> Table<B, S> {
 
     /// The opening sets of the voices, in order.
     pub fn voices(&self) -> &[ValueSet]
-        ensures value { result.now ≡ (model self.now 0).voices }
+        ensures value { result.now ≡ (model self.now).voices }
         ensures bound { length result.now ≤ most_voices }
     {
         &self.voices
