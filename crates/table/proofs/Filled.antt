@@ -4,7 +4,7 @@ use Rattle.sets.specs.Placings.{Proper}
 use Rattle.table.specs.declared.engine.level.LevelRecord.{LevelRecord}
 use Rattle.table.specs.declared.engine.levels.Levels.{Levels}
 use Rattle.table.specs.Levels.{first_levels, newest_sets}
-use Rattle.table.specs.Stacks.{listed}
+use Rattle.table.specs.Stacks.{levels_in}
 
 tail : (x : ℕ) (s : List ℕ) → Proper (x ∷ s) → Proper s
 tail x s p i l = p (suc i) (omega arith)
@@ -40,7 +40,7 @@ newest : (n : ℕ) (trail : List ℕ) (records : List LevelRecord) (d : ℕ) →
 newest n trail records zero p = proper_none
 newest n trail records (suc d) p = proper_take n (drop (d * n) trail) (proper_drop (d * n) trail p)
 
-pub newest_proper : (l : Levels) → Proper (newest_sets (listed l))
+pub newest_proper : (l : Levels) → Proper (newest_sets (levels_in l))
 newest_proper l = newest l.width l.trail.items l.records.items (length l.records.items) l.proper
 
 pub power_some : (n : ℕ) → 0 < 2 ^ n

@@ -5,7 +5,7 @@ use Rattle.std.proofs.lemmas.Bool.{cases_lt, ne_eqb, eqb-false}
 use Rattle.sets.specs.Sets.{least, only}
 use Rattle.search.specs.Search.{Level, below}
 use Rattle.table.specs.declared.engine.level.LevelRecord.{LevelRecord}
-use Rattle.table.specs.Levels.{no_record, level_at, first_levels, levels_at, is_none, is_spent, newest_sets, without_newest, next_sets, tried, Voiced}
+use Rattle.table.specs.Levels.{no_record, level_at, first_levels, levels_at, is_none, is_spent, newest_sets, without_newest, next_sets, next_levels, Voiced}
 
 -- ---- a stack with no level, and one with some
 
@@ -72,7 +72,7 @@ newest_length n trail records w h =
 -- ---- the node that is opened next
 
 -- a value taken out of the newest level leaves its sets
-pub newest_tried : (ls : List Level) → newest_sets (tried ls) ≡ newest_sets ls
+pub newest_tried : (ls : List Level) → newest_sets (next_levels ls) ≡ newest_sets ls
 newest_tried [] = refl
 newest_tried (l ∷ ls) = refl
 
@@ -159,7 +159,7 @@ record_taken l = record { voice = l.voice; left = l.left - only (least l.left) }
 
 pub levels_tried : (n : ℕ) (trail : List ℕ) (records after : List LevelRecord) → 0 < length records
     → after ≡ set records (length records - 1) (record_taken (get_or records (length records - 1) no_record))
-    → levels_at n trail after ≡ tried (levels_at n trail records)
+    → levels_at n trail after ≡ next_levels (levels_at n trail records)
 levels_tried n trail records after h t =
     let r = record_taken (get_or records (length records - 1) no_record) in
     let p : length after ≡ suc (length records - 1) = ap length t ∙ length-set records (length records - 1) r ∙ omega arith in
@@ -171,4 +171,4 @@ levels_tried n trail records after h t =
     ap (first_levels n trail after) p
     ∙ ap₂ (λ (a : Level) (b : List Level). a ∷ b) (ap (λ (y : LevelRecord). level (take n (drop ((length records - 1) * n) trail)) y) top)
     (levels_same n trail trail records after (length records - 1) refl rest)
-    ∙ sym (ap tried (levels_some n trail records h))
+    ∙ sym (ap next_levels (levels_some n trail records h))

@@ -13,7 +13,7 @@ use Rattle.search.specs.Search.{Level, Node, Place, BacksUp, Opens, node, below,
 use Rattle.search.specs.Search.Node.{dead, solution, hit, branch}
 use Rattle.table.specs.declared.engine.level.End.{End}
 use Rattle.table.specs.declared.engine.level.End.TheVariants.{Found, Exhausted}
-use Rattle.table.specs.Levels.{tried, stop, Backed}
+use Rattle.table.specs.Levels.{next_levels, place_backed_up, Backed}
 use Rattle.table.specs.Places.{place_of}
 use Rattle.table.specs.Nodes.{node_of}
 use Rattle.table.specs.declared.engine.node.Node as code
@@ -107,7 +107,7 @@ pub record Opened (st : Behaviour) (m : Meaning) (rows : List RowData) (s : List
   pub lost : ℕ
   pub opens : Opens st m rows s ls v p w n lost
 
-place_spent : (w : List ℕ) (ls : List Level) → stop ls ≡ place_of Exhausted w ls
+place_spent : (w : List ℕ) (ls : List Level) → place_backed_up ls ≡ place_of Exhausted w ls
 place_spent w [] = refl
 place_spent w (l ∷ ls) = refl
 
@@ -124,31 +124,31 @@ failed r t (inr e) = subst (λ (x : code.Node). Fails (node_of x t)) (sym e) tt
 
 -- The node with the sets s, which are propagated to t; the voices below k are fixed.
 module _ (st : Behaviour) (m : Meaning) (rows : List RowData) (s t : List ℕ) (ls : List Level) (v : st.State) (k : ℕ) where
-  at_node : {x : Node} → t ≡ propagated m rows s → k ≡ below (tried ls) → node m rows (st.view v) k t ≡ x → node m rows (st.view v) (below (tried ls)) (propagated m rows s) ≡ x
+  at_node : {x : Node} → t ≡ propagated m rows s → k ≡ below (next_levels ls) → node m rows (st.view v) k t ≡ x → node m rows (st.view v) (below (next_levels ls)) (propagated m rows s) ≡ x
   at_node e f h = ap₂ (node m rows (st.view v)) (sym f) (sym e) ∙ h
 
-  opens_failed : (x : Node) (p : Place) (w : st.State) (n j : ℕ) → Fails x → node m rows (st.view v) (below (tried ls)) (propagated m rows s) ≡ x → BacksUp st m rows (tried ls) v p w n j
-      → Opens st m rows s (tried ls) v p w n j
+  opens_failed : (x : Node) (p : Place) (w : st.State) (n j : ℕ) → Fails x → node m rows (st.view v) (below (next_levels ls)) (propagated m rows s) ≡ x → BacksUp st m rows (next_levels ls) v p w n j
+      → Opens st m rows s (next_levels ls) v p w n j
   opens_failed dead p w n j f h b = Opens.dies p w n j h b
   opens_failed hit p w n j f h b = Opens.hits p w n j h b
   opens_failed (solution q) p w n j f h b = absurd f
   opens_failed (branch l) p w n j f h b = absurd f
 
-  pub opened_failed : (x : Node) (under : List Level) (w : st.State) (rest : List Level) (y : List ℕ) (n : ℕ) → Fails x → t ≡ propagated m rows s → k ≡ below (tried ls) → node m rows (st.view v) k t ≡ x
-      → under ≡ tried ls → Backed st m rows under v rest w n → Opened st m rows s (tried ls) v (place_of Exhausted y rest) w n
+  pub opened_failed : (x : Node) (under : List Level) (w : st.State) (rest : List Level) (y : List ℕ) (n : ℕ) → Fails x → t ≡ propagated m rows s → k ≡ below (next_levels ls) → node m rows (st.view v) k t ≡ x
+      → under ≡ next_levels ls → Backed st m rows under v rest w n → Opened st m rows s (next_levels ls) v (place_of Exhausted y rest) w n
   opened_failed x under w rest y n f e g h q b =
-      let c : Backed st m rows (tried ls) v rest w n = subst (λ a. Backed st m rows a v rest w n) q b in
-      record { lost = c.lost; opens = subst (λ p. Opens st m rows s (tried ls) v p w n c.lost) (place_spent y rest) (opens_failed x (stop rest) w n c.lost f (at_node e g h) c.backs) }
+      let c : Backed st m rows (next_levels ls) v rest w n = subst (λ a. Backed st m rows a v rest w n) q b in
+      record { lost = c.lost; opens = subst (λ p. Opens st m rows s (next_levels ls) v p w n c.lost) (place_spent y rest) (opens_failed x (place_backed_up rest) w n c.lost f (at_node e g h) c.backs) }
 
-  pub opened_solution : (rest : List Level) (y : List ℕ) → t ≡ propagated m rows s → k ≡ below (tried ls) → node m rows (st.view v) k t ≡ solution (values t) → rest ≡ [] → y ≡ t
-      → Opened st m rows s (tried ls) v (place_of Found y rest) v 0
+  pub opened_solution : (rest : List Level) (y : List ℕ) → t ≡ propagated m rows s → k ≡ below (next_levels ls) → node m rows (st.view v) k t ≡ solution (values t) → rest ≡ [] → y ≡ t
+      → Opened st m rows s (next_levels ls) v (place_of Found y rest) v 0
   opened_solution rest y e g h q z =
-      subst (λ a. Opened st m rows s (tried ls) v (place_of Found y a) v 0) (sym q)
-      (subst (λ a. Opened st m rows s (tried ls) v (place_of Found a []) v 0) (sym z)
+      subst (λ a. Opened st m rows s (next_levels ls) v (place_of Found y a) v 0) (sym q)
+      (subst (λ a. Opened st m rows s (next_levels ls) v (place_of Found a []) v 0) (sym z)
       (record { lost = 0; opens = Opens.finds (values t) (at_node e g h) }))
 
-  pub opened_branch : (l : Level) (rest : List Level) (z : End) (y : List ℕ) → t ≡ propagated m rows s → k ≡ below (tried ls) → node m rows (st.view v) k t ≡ branch l → rest ≡ l ∷ tried ls
-      → Opened st m rows s (tried ls) v (place_of z y rest) v 0
+  pub opened_branch : (l : Level) (rest : List Level) (z : End) (y : List ℕ) → t ≡ propagated m rows s → k ≡ below (next_levels ls) → node m rows (st.view v) k t ≡ branch l → rest ≡ l ∷ next_levels ls
+      → Opened st m rows s (next_levels ls) v (place_of z y rest) v 0
   opened_branch l rest z y e g h q =
-      subst (λ r. Opened st m rows s (tried ls) v (place_of z y r) v 0) (sym q)
+      subst (λ r. Opened st m rows s (next_levels ls) v (place_of z y r) v 0) (sym q)
       (record { lost = 0; opens = Opens.branches l (at_node e g h) })

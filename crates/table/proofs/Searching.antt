@@ -6,7 +6,7 @@ use Rattle.search.specs.Search.{Level, Place, Opens, Steps, taken}
 use Rattle.search.specs.Calls.{Table, over, OpensNodes}
 use Rattle.table.specs.declared.engine.level.End.{End}
 use Rattle.table.specs.declared.engine.level.End.TheVariants.{Fresh, Found, Exhausted}
-use Rattle.table.specs.Levels.{next_sets, tried}
+use Rattle.table.specs.Levels.{next_sets, next_levels}
 use Rattle.table.specs.Places.{place_of}
 use Rattle.table.specs.Searches.{Ran, Runs}
 use Rattle.table.proofs.Openings.{Opened}
@@ -20,7 +20,7 @@ pub record Advanced (st : Behaviour) (m : Meaning) (voices : List ℕ) (rows : L
 
 module _ (st : Behaviour) where
   pub next_step : (m : Meaning) (voices : List ℕ) (rows : List RowData) (s : List ℕ) (ls : List Level) (e : End) (y : List ℕ) (v x : st.State) (q : Place) (i : ℕ)
-      → over (place_of e y ls) ≡ false → s ≡ next_sets voices ls → Opened st m rows s (tried ls) v q x i → Advanced st m voices rows (place_of e y ls) v q x i
+      → over (place_of e y ls) ≡ false → s ≡ next_sets voices ls → Opened st m rows s (next_levels ls) v q x i → Advanced st m voices rows (place_of e y ls) v q x i
   next_step m voices rows s [] Fresh y v x q i h f o =
       record { lost = o.lost; steps = Steps.first v x q i o.lost (subst (λ t. Opens st m rows t [] v q x i o.lost) f o.opens) }
   next_step m voices rows s [] Found y v x q i h f o = cc

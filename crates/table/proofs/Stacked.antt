@@ -5,8 +5,8 @@ use Rattle.std.proofs.lemmas.Nat.{mul-le}
 use Rattle.search.specs.Search.{below}
 use Rattle.table.specs.declared.engine.level.LevelRecord.{LevelRecord}
 use Rattle.table.specs.declared.engine.levels.Levels.{Levels}
-use Rattle.table.specs.Levels.{no_record, is_none, tried, levels_at}
-use Rattle.table.specs.Stacks.{listed}
+use Rattle.table.specs.Levels.{no_record, is_none, next_levels, levels_at}
+use Rattle.table.specs.Stacks.{levels_in}
 use Rattle.table.proofs.Leveled.{some_from, place_of_newest, deep_below, record_taken, levels_tried}
 
 -- the trail is as long as its levels
@@ -14,10 +14,10 @@ pub whole_trail : (l : Levels) → length l.trail.items ≡ length l.records.ite
 whole_trail l = sym l.trail.ok.0 ∙ l.whole ∙ ap (λ (n : ℕ). n * l.width) l.records.ok.0
 
 -- where there is a level, its sets are there
-pub some_records : (l : Levels) → is_none (listed l) ≡ false → 0 < length l.records.items
+pub some_records : (l : Levels) → is_none (levels_in l) ≡ false → 0 < length l.records.items
 some_records l e = some_from l.width l.trail.items l.records.items e
 
-pub below_newest : (l : Levels) → is_none (listed l) ≡ false → (l.records.len - 1) * l.width + l.width ≡ l.trail.len
+pub below_newest : (l : Levels) → is_none (levels_in l) ≡ false → (l.records.len - 1) * l.width + l.width ≡ l.trail.len
 below_newest l e = place_of_newest l.width l.records.len l.trail.len l.whole (omega (arith, some_records l e, l.records.ok.0))
 
 -- room for one level more, which branches on a voice that is not fixed
@@ -26,7 +26,7 @@ pub record Roomy (l : Levels) (v : ℕ) : Type 0 where
   pub fewer : l.records.len < l.width
   pub room : l.trail.len + l.width ≤ l.trail.cap
 
-pub roomy : (l : Levels) (v : ℕ) → below (listed l) ≤ v → v < l.width → Roomy l v
+pub roomy : (l : Levels) (v : ℕ) → below (levels_in l) ≤ v → v < l.width → Roomy l v
 roomy l v h k =
     let d = deep_below l.width l.trail.items l.records.items l.voiced in
     let f : l.records.len < l.width = omega (arith, d, h, k, l.records.ok.0) in
@@ -45,7 +45,7 @@ newest_record s l h e =
 
 -- the levels once the record has gone on
 pub gone_on : (s : Levels) (l after : LevelRecord) → 0 < s.records.len → l ≡ get_or s.records.items (s.records.len - 1) l → after ≡ record_taken l
-    → levels_at s.width s.trail.items (set s.records.items (s.records.len - 1) after) ≡ tried (listed s)
+    → levels_at s.width s.trail.items (set s.records.items (s.records.len - 1) after) ≡ next_levels (levels_in s)
 gone_on s l after h e t =
     let xs = s.records.items in
     levels_tried s.width s.trail.items xs (set xs (s.records.len - 1) after) (omega (arith, h, s.records.ok.0))

@@ -54,20 +54,20 @@ abbrev pub next_sets : List ℕ → List Level → List ℕ
 next_sets voices [] = voices
 next_sets voices (l ∷ ls) = child l
 
-abbrev pub tried : List Level → List Level
-tried [] = []
-tried (l ∷ ls) = taken l ∷ ls
+abbrev pub next_levels : List Level → List Level
+next_levels [] = []
+next_levels (l ∷ ls) = taken l ∷ ls
 
 -- where a search stands that has backed up to these levels
-abbrev pub stop : List Level → Place
-stop [] = none
-stop (l ∷ ls) = going l ls
+abbrev pub place_backed_up : List Level → Place
+place_backed_up [] = none
+place_backed_up (l ∷ ls) = going l ls
 
 -- the state that a store may be in once the key was given to it, whatever it answered
-abbrev pub Given : (b : Behaviour) → b.State → List ℕ → b.State → Type 0
-Given b s k t = (r : Stored) × b.keeps s k r t
+abbrev pub KeyGiven : (b : Behaviour) → b.State → List ℕ → b.State → Type 0
+KeyGiven b s k t = (r : Stored) × b.keeps s k r t
 
 -- backing up from a failed node below the levels ls leaves the levels rest; n levels are exhausted
 pub record Backed (b : Behaviour) (m : Meaning) (rows : List RowData) (ls : List Level) (s : b.State) (rest : List Level) (t : b.State) (n : ℕ) : Type 0 where
   pub lost : ℕ
-  pub backs : BacksUp b m rows ls s (stop rest) t n lost
+  pub backs : BacksUp b m rows ls s (place_backed_up rest) t n lost

@@ -7,12 +7,12 @@ use Rattle.table.specs.declared.engine.level.End.{End}
 use Rattle.table.specs.declared.engine.level.End.TheVariants.{Fresh, Found, Exhausted}
 
 -- with no level; what was found are the values of the sets s
-abbrev pub ended : End → List ℕ → Place
-ended Fresh s = fresh
-ended Found s = found (values s)
-ended Exhausted s = none
+abbrev pub end_place : End → List ℕ → Place
+end_place Fresh s = fresh
+end_place Found s = found (values s)
+end_place Exhausted s = none
 
 -- with these levels
 abbrev pub place_of : End → List ℕ → List Level → Place
-place_of e s [] = ended e s
+place_of e s [] = end_place e s
 place_of e s (l ∷ ls) = going l ls

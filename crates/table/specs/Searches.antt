@@ -6,7 +6,7 @@ use Rattle.search.specs.Search.{Level, Place}
 use Rattle.search.specs.Search.Place.{fresh, going, found, none}
 use Rattle.search.specs.Calls.{Table, OpensNodes, Solved}
 use Rattle.table.specs.Places.{place_of}
-use Rattle.table.specs.Stacks.{listed}
+use Rattle.table.specs.Stacks.{levels_in}
 use Rattle.table.specs.declared.engine.state.Search.{Search}
 use Rattle.table.specs.declared.engine.level.End.TheVariants.{Fresh}
 use Rattle.table.specs.declared.outcome.Outcome.{Outcome}
@@ -21,7 +21,7 @@ node_sets s = vec_items s.sets
 
 -- its levels, newest first, and where it stands
 abbrev pub levels_of : Search → List Level
-levels_of s = listed s.levels
+levels_of s = levels_in s.levels
 
 abbrev pub place : Search → Place
 place s = place_of s.end (vec_items s.sets) (levels_of s)

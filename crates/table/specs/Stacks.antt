@@ -5,10 +5,10 @@ use Rattle.table.specs.Levels.{levels_at}
 use Rattle.table.specs.declared.engine.levels.Levels.{Levels}
 
 -- the levels, newest first
-abbrev pub listed : Levels → List Level
-listed l = levels_at l.width (vec_items l.trail) (vec_items l.records)
+abbrev pub levels_in : Levels → List Level
+levels_in l = levels_at l.width (vec_items l.trail) (vec_items l.records)
 
 -- no levels; those to come have n sets
 pub record Cleared (n : ℕ) (l : Levels) : Type 0 where
   pub width : l.width ≡ n
-  pub level_none : listed l ≡ []
+  pub level_none : levels_in l ≡ []

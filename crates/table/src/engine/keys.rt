@@ -4,7 +4,7 @@ ghost use Rattle.rows.specs.Views.{rows_of};
 ghost use Rattle.search.specs.Limits.{most_voices, most_rows};
 ghost use Rattle.stores.specs.Keys.{key};
 ghost use Rattle.stores.specs.Stores.{member};
-ghost use Rattle.table.specs.Levels.{Given};
+ghost use Rattle.table.specs.Levels.{KeyGiven};
 
 use rows::bank::Bank;
 use rows::row::Row;
@@ -59,7 +59,7 @@ impl KeyBuffer {
     pub(crate) fn give<B: Bank, S: Store>(&mut self, rows: &[Row], sets: &[ValueSet], store: &mut S)
         requires sets { length sets.now ≤ most_voices }
         requires rows { length rows.now ≤ most_rows }
-        ensures { Given S.Store.behaviour (S.Store.state store.old)
+        ensures { KeyGiven S.Store.behaviour (S.Store.state store.old)
             (key B.Bank.meaning (rows_of rows.now) sets.now) (S.Store.state store.new) }
     {
         if store.turns_away(sets.len() + 2 * rows.len()) {

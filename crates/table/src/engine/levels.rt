@@ -4,7 +4,7 @@ ghost use Rattle.sets.specs.Placings.{Proper};
 ghost use Rattle.rows.specs.Views.{rows_of};
 ghost use Rattle.search.specs.Limits.{most_voices, most_rows};
 ghost use Rattle.search.specs.Search.{below};
-ghost use Rattle.table.specs.Levels.{Voiced, Backed, is_none, is_spent, newest_sets, without_newest, next_sets, tried};
+ghost use Rattle.table.specs.Levels.{Voiced, Backed, is_none, is_spent, newest_sets, without_newest, next_sets, next_levels};
 
 use crate::engine::keys::KeyBuffer;
 use crate::engine::level::LevelRecord;
@@ -39,7 +39,7 @@ pub(crate) struct Levels {
 }
 
 impl Levels {
-    ghost use Rattle.table.specs.Stacks.{listed, Cleared};
+    ghost use Rattle.table.specs.Stacks.{levels_in, Cleared};
 
     // No levels, for no voices.
     pub(crate) fn new(heap: Global) -> Result<Levels, AllocError>
@@ -73,21 +73,21 @@ impl Levels {
 
     // Whether there is no level.
     pub(crate) fn is_empty(&self) -> bool
-        ensures { result ≡ is_none (listed self.now) }
+        ensures { result ≡ is_none (levels_in self.now) }
     {
         self.records.is_empty()
     }
 
     // Whether there is a level, and the newest has no value left to try.
     pub(crate) fn is_spent(&self) -> bool
-        ensures { result ≡ is_spent (listed self.now) }
+        ensures { result ≡ is_spent (levels_in self.now) }
     {
         self.records.last().is_some_and(|level| level.left == 0)
     }
 
     // The voices below this one are fixed in every node under these levels.
     pub(crate) fn fixed_below(&self) -> usize
-        ensures value { result ≡ below (listed self.now) }
+        ensures value { result ≡ below (levels_in self.now) }
         ensures inside { result ≤ self.now.width }
     {
         match self.records.last() {
@@ -98,8 +98,8 @@ impl Levels {
 
     // The sets of the newest level.
     pub(crate) fn newest_sets(&self) -> &[ValueSet]
-        requires { is_none (listed self.now) ≡ false }
-        ensures value { result.now ≡ newest_sets (listed self.now) }
+        requires { is_none (levels_in self.now) ≡ false }
+        ensures value { result.now ≡ newest_sets (levels_in self.now) }
         ensures width { length result.now ≡ self.now.width }
     {
         &self.trail[self.trail.len() - self.width..]
@@ -110,12 +110,12 @@ impl Levels {
     pub(crate) fn push(&mut self, voice: usize, sets: &[ValueSet])
         requires width { length sets.now ≡ self.old.width }
         requires inside { voice < length sets.now }
-        requires above { below (listed self.old) ≤ voice }
+        requires above { below (levels_in self.old) ≤ voice }
         requires proper { Proper sets.now }
         ensures width { self.new.width ≡ self.old.width }
-        ensures list { listed self.new
+        ensures list { levels_in self.new
             ≡ record { sets = sets.now; voice = voice; left = slice_index sets.now voice }
-            ∷ listed self.old }
+            ∷ levels_in self.old }
     {
         // there is room, so that this allocates nothing and cannot fail
         let _ = self.trail.extend_from_slice(sets);
@@ -127,10 +127,10 @@ impl Levels {
 
     // Drops the newest level.
     pub(crate) fn pop(&mut self)
-        requires { is_none (listed self.old) ≡ false }
+        requires { is_none (levels_in self.old) ≡ false }
         ensures width { self.new.width ≡ self.old.width }
         ensures count { vec_len self.new.records + 1 ≡ vec_len self.old.records }
-        ensures list { listed self.new ≡ without_newest (listed self.old) }
+        ensures list { levels_in self.new ≡ without_newest (levels_in self.old) }
     {
         let rest = self.trail.len() - self.width;
         self.records.pop();
@@ -142,10 +142,10 @@ impl Levels {
     pub(crate) fn enter_next(&mut self, voices: &[ValueSet], sets: &mut [ValueSet])
         requires voices { length voices.now ≡ self.old.width }
         requires width { length sets.old ≡ self.old.width }
-        requires history { is_spent (listed self.old) ≡ false }
+        requires history { is_spent (levels_in self.old) ≡ false }
         ensures width { self.new.width ≡ self.old.width }
-        ensures list { listed self.new ≡ tried (listed self.old) }
-        ensures after { sets.new ≡ next_sets voices.now (listed self.old) }
+        ensures list { levels_in self.new ≡ next_levels (levels_in self.old) }
+        ensures after { sets.new ≡ next_sets voices.now (levels_in self.old) }
         ensures proper { Proper voices.now → Proper sets.new }
     {
         let Some(level) = self.records.last_mut() else {
@@ -169,10 +169,10 @@ impl Levels {
         requires rows { length rows.now ≤ most_rows }
         ensures width { self.new.width ≡ self.old.width }
         ensures few { result ≤ self.old.width }
-        ensures history { is_spent (listed self.new) ≡ false }
+        ensures history { is_spent (levels_in self.new) ≡ false }
         ensures backs { Backed S.Store.behaviour B.Bank.meaning (rows_of rows.now)
-            (listed self.old) (S.Store.state store.old)
-            (listed self.new) (S.Store.state store.new) result }
+            (levels_in self.old) (S.Store.state store.old)
+            (levels_in self.new) (S.Store.state store.new) result }
     {
         let mut exhausted = 0;
         while self.is_spent() {

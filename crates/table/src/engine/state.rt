@@ -5,7 +5,7 @@ ghost use Rattle.rows.specs.Placed.{Ready};
 ghost use Rattle.search.specs.Limits.{most_voices, most_rows, most_opened};
 ghost use Rattle.search.specs.Calls.{over};
 ghost use Rattle.table.specs.Levels.{is_spent};
-ghost use Rattle.table.specs.Stacks.{listed};
+ghost use Rattle.table.specs.Stacks.{levels_in};
 
 use crate::engine::keys::KeyBuffer;
 use crate::engine::level::End;
@@ -39,7 +39,7 @@ pub(crate) struct Search {
     ghost room: { most_voices ≤ vec_capacity sets },
     ghost fitted: { levels.width ≡ vec_len sets },
     // the newest level has a value left to try
-    ghost history: { is_spent (listed levels) ≡ false },
+    ghost history: { is_spent (levels_in levels) ≡ false },
 }
 
 // Each method says that there are as many voices as before, which no ghost field can say.

@@ -4,7 +4,7 @@ use Rattle.sets.proofs.Masks.{only_mask}
 use Rattle.sets.specs.Placings.{Proper}
 use Rattle.table.specs.declared.engine.level.LevelRecord.{LevelRecord}
 use Rattle.table.specs.Levels.{newest_sets}
-use Rattle.table.specs.Stacks.{listed}
+use Rattle.table.specs.Stacks.{levels_in}
 use Rattle.table.proofs.Leveled.{some_left, next_are, newest_tried}
 use Rattle.table.proofs.Stacked.{newest_record, gone_on}
 use Rattle.table.proofs.Filled.{proper_set, power_some, newest_proper}
@@ -26,7 +26,7 @@ returns-clause-after c =
     let on = gone_on s l c.advance-value.new.self there c.in-Some.ensures.value c.advance-value.ensures.after in
     ap (λ (k : LevelRecord). set c.copy_from_slice-2.new.self k.voice c.single.result) c.advance-value.ensures.after
     ∙ next_are s.width s.trail.items xs c.args.voices.now c.copy_from_slice-2.new.self l c.single.result some
-    (c.copy_from_slice-2.ensures.after ∙ c.newest_sets.ensures.value ∙ ap newest_sets on ∙ newest_tried (listed s)) read one
+    (c.copy_from_slice-2.ensures.after ∙ c.newest_sets.ensures.value ∙ ap newest_sets on ∙ newest_tried (levels_in s)) read one
 
 pub returns-clause-proper : goal.returns-clause-proper
 returns-clause-proper c = λ voices.
@@ -41,4 +41,4 @@ returns-clause-proper c = λ voices.
     let small : c.single.result < 2 ^ 64 = search rules in
     let on = gone_on s l c.advance-value.new.self there c.in-Some.ensures.value c.advance-value.ensures.after in
     proper_set c.copy_from_slice-2.new.self c.advance-value.new.self.voice c.single.result (omega (arith, one, power_some (least l.left)), small)
-    (subst Proper (sym (c.copy_from_slice-2.ensures.after ∙ c.newest_sets.ensures.value ∙ ap newest_sets on ∙ newest_tried (listed s))) (newest_proper s))
+    (subst Proper (sym (c.copy_from_slice-2.ensures.after ∙ c.newest_sets.ensures.value ∙ ap newest_sets on ∙ newest_tried (levels_in s))) (newest_proper s))
