@@ -1,7 +1,9 @@
 -- A sheet read to its end or to its first fault: the calls that it stands for, and its bytes.
-use Rattle.std.proofs.Common.{◌≡◌, ℕ, zero, suc, ◌+◌, ◌^◌, ◌<◌, ◌≤◌, ltb, get_or, List, [], ◌∷◌, ◌++◌, length, take, drop, sym, refl, ap, ◌∙◌, subst, arith}
-use Rattle.std.proofs.lemmas.List.{append-nil, append_assoc, length-append, length-take, length-take-le, length-drop, take-append-drop, get_or-take, get_or-drop}
-use Rattle.std.proofs.lemmas.Bool.{and_parts, not-false, ltb-true}
+use Rattle.std.proofs.Common.{◌≡◌, ℕ, zero, suc, ◌+◌, ◌^◌, ◌<◌, ◌≤◌, ltb, get_or, List, [], ◌∷◌, ◌++◌, length, take, drop, sym, refl, ap, ◌∙◌, subst, inl, inr, arith}
+use Rattle.std.proofs.lemmas.List.{append-nil, append_assoc, length-append, length-take, length-take-le, length-drop, take-append-drop, get_or-take, get_or-drop, get_or_past}
+use Rattle.std.proofs.lemmas.Nat.{le_bytes_8}
+use Rattle.std.specs.Int.{w64, to_le_bytes, from_le_bytes}
+use Rattle.std.proofs.lemmas.Bool.{cases_lt, and_parts, not-false, ltb-true}
 use Rattle.rows.specs.Rows.{RowData, Meaning}
 use Rattle.rows.specs.Laws.{Laws}
 use Rattle.rows.specs.Bytes.{Bytes, head_length, lettered, counted, right_length, marked, Layout, LaidOut, decode, encode}
@@ -18,12 +20,11 @@ use Rattle.search.proofs.AnyStore.{history_any}
 use Rattle.search.proofs.HistoryFacts.{none_fits, fit}
 use Rattle.search.proofs.OverEvery.{limits_hold}
 use Rattle.sheets.specs.declared.refusal.Layer.{Layer}
-use Rattle.sheets.specs.Sheets.{low_first, number_in, voice_record, voice_records, row_records, records, sheet}
+use Rattle.sheets.specs.Sheets.{voice_record, voice_records, row_records, records, sheet}
 use Rattle.sheets.specs.Reading.{RecordReading, read_record, SheetReading, read_on, read_from, read_sheet}
 use Rattle.sheets.specs.Reading.RecordReading.{last, voice, row, fault}
 use Rattle.sheets.specs.Reading.SheetReading.{accepted, refused}
 use Rattle.sheets.specs.Laws.{Holdable, FirstFault, declared_after, posted_after}
-use Rattle.sheets.proofs.Numbers.{low_first_of_number, number_fits}
 use Rattle.sheets.proofs.Records.{VoiceHere, RowHere, voice_here, row_here, last_here}
 use Rattle.sheets.specs.Loading.{Fills}
 
@@ -62,24 +63,30 @@ bytes_from n bs b i l = subst (λ (x : ℕ). x < 256) (sym (get_or-drop n bs i 0
 bytes_front : (n : ℕ) (bs : List ℕ) → Bytes bs → Bytes (take n bs)
 bytes_front n bs b i l = subst (λ (x : ℕ). x < 256) (sym (get_or-take n bs i 0 (omega (arith, l, length-take n bs)))) (b i (omega (arith, l, length-take n bs)))
 
-eight : (bs : List ℕ) → 8 ≤ length bs → Bytes bs → low_first 8 (number_in (take 8 bs)) ++ drop 8 bs ≡ bs
+byte_anywhere : (bs : List ℕ) → Bytes bs → (i : ℕ) → get_or bs i 0 < 256
+byte_anywhere bs b i =
+    elim (cases_lt i (length bs)) [
+      | inl l ↦ b i l
+      | inr l ↦ omega (arith, get_or_past bs i 0 l)
+    ]
+
+eight : (bs : List ℕ) → 8 ≤ length bs → Bytes bs → to_le_bytes w64 (from_le_bytes w64 (take 8 bs)) ++ drop 8 bs ≡ bs
 eight bs l b =
-    let w : low_first 8 (number_in (take 8 bs)) ≡ take 8 bs =
-    ap (λ (k : ℕ). low_first k (number_in (take 8 bs))) (sym (length-take-le 8 bs l)) ∙ low_first_of_number (take 8 bs) (bytes_front 8 bs b) in
-    ap (λ (x : List ℕ). x ++ drop 8 bs) w ∙ take-append-drop 8 bs
+    ap (λ (x : List ℕ). x ++ drop 8 bs) (le_bytes_8 (take 8 bs) (from_le_bytes w64 (take 8 bs)) (length-take-le 8 bs l) (byte_anywhere (take 8 bs) (bytes_front 8 bs b)) refl)
+    ∙ take-append-drop 8 bs
 
 voice_bytes : (m : Meaning) (voices : List ℕ) (rows : List RowData) (bs : List ℕ) (s : ℕ) → VoiceHere m voices rows bs s → Bytes bs → voice_record s ++ drop 9 bs ≡ bs
 voice_bytes m voices rows [] s h b = absurd (omega (arith, h.long))
 voice_bytes m voices rows (x ∷ bs) s h b =
     ap (λ (k : ℕ). voice_record k ++ drop 8 bs) (sym h.number)
-    ∙ ap (λ (k : ℕ). k ∷ (low_first 8 (number_in (take 8 bs)) ++ drop 8 bs)) (sym h.mark)
+    ∙ ap (λ (k : ℕ). k ∷ (to_le_bytes w64 (from_le_bytes w64 (take 8 bs)) ++ drop 8 bs)) (sym h.mark)
     ∙ ap (λ (y : List ℕ). x ∷ y) (eight bs (omega (arith, h.long)) (bytes_from 1 (x ∷ bs) b))
 
 voice_fits_word : (m : Meaning) (voices : List ℕ) (rows : List RowData) (bs : List ℕ) (s : ℕ) → VoiceHere m voices rows bs s → Bytes bs → s < 2 ^ 64
 voice_fits_word m voices rows bs s h b =
     let x = take 8 (drop 1 bs) in
-    let n : length x ≡ 8 = length-take-le 8 (drop 1 bs) (omega (arith, h.long, length-drop 1 bs)) in
-    subst (λ (k : ℕ). k < 2 ^ 64) h.number (subst (λ (k : ℕ). number_in x < 256 ^ k) n (number_fits x (bytes_front 8 (drop 1 bs) (bytes_from 1 bs b))))
+    let small = byte_anywhere x (bytes_front 8 (drop 1 bs) (bytes_from 1 bs b)) in
+    omega (arith, h.number, small 0, small 1, small 2, small 3, small 4, small 5, small 6, small 7)
 
 row_layout : (m : Meaning) (t : Table) (bs : List ℕ) → judged m t (post bs) ≡ Judgement.passes → Layout m bs
 row_layout m t bs j =

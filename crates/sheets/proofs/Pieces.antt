@@ -1,18 +1,11 @@
--- The bytes and the lengths of records.
-use Rattle.std.proofs.Common.{◌≡◌, ℕ, ◌+◌, ◌*◌, ◌/◌, ◌%◌, List, [], ◌∷◌, length, sym, refl, ◌∙◌, arith}
-use native.Mathlib.Nat.{div-div-eq-div-mul}
+-- The lengths of records.
+use Rattle.std.proofs.Common.{◌≡◌, ℕ, ◌+◌, ◌*◌, List, [], ◌∷◌, length, refl, ◌∙◌, arith}
 use Rattle.std.proofs.lemmas.List.{length-append}
 use Rattle.rows.specs.Rows.{RowData}
 use Rattle.rows.specs.Bytes.{total_bytes}
 use Rattle.rows.proofs.RowBytes.{row_length}
 use Rattle.rows.specs.WrittenRows.{written_row}
-use Rattle.sheets.specs.Sheets.{low_first, voice_records, row_records, records, sheet}
-
--- the eight bytes of a set
-pub low_first_8 : (n : ℕ)
-    → n % 256 ∷ n / 256 % 256 ∷ n / 65536 % 256 ∷ n / 16777216 % 256 ∷ n / 4294967296 % 256 ∷ n / 1099511627776 % 256 ∷ n / 281474976710656 % 256 ∷ n / 72057594037927936 % 256 ∷ []
-    ≡ low_first 8 n
-low_first_8 n = sym (simp div-div-eq-div-mul)
+use Rattle.sheets.specs.Sheets.{voice_records, row_records, records, sheet}
 
 pub voices_length : (voices : List ℕ) → length (voice_records voices) ≡ 9 * length voices
 voices_length [] = refl

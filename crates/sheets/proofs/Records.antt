@@ -7,7 +7,7 @@ use Rattle.rows.specs.Bytes.{count_byte, head_length, lettered}
 use Rattle.search.specs.Calls.{begun, Judgement, judged}
 use Rattle.search.specs.Calls.Call.{declare, post}
 use Rattle.sheets.specs.declared.refusal.Layer.TheVariants.{Sheet}
-use Rattle.sheets.specs.Sheets.{number_in}
+use Rattle.std.specs.Int.{w64, from_le_bytes}
 use Rattle.sheets.specs.Reading.{RecordReading, if_passes, read_end, read_voice, front_row, read_row, read_record}
 use Rattle.sheets.specs.Reading.RecordReading.{last, voice, row, fault}
 
@@ -37,13 +37,13 @@ late_voice m voices (r ∷ rows) bs h = refl
 
 pub cut_voice : (m : Meaning) (voices : List ℕ) (rows : List RowData) (bs : List ℕ) → length rows ≡ 0 → length bs < 8 → read_voice m voices rows bs ≡ fault 6 0 Sheet
 cut_voice m voices [] bs e h =
-    cond-true (ltb (length bs) 8) (fault 6 0 Sheet) (if_passes (judged m (begun voices []) (declare (number_in (take 8 bs)))) (voice (number_in (take 8 bs)))) (lt-ltb (length bs) 8 h)
+    cond-true (ltb (length bs) 8) (fault 6 0 Sheet) (if_passes (judged m (begun voices []) (declare (from_le_bytes w64 (take 8 bs)))) (voice (from_le_bytes w64 (take 8 bs)))) (lt-ltb (length bs) 8 h)
 cut_voice m voices (r ∷ rows) bs e h = absurd (omega arith)
 
-pub whole_voice : (m : Meaning) (voices : List ℕ) (rows : List RowData) (bs : List ℕ) (s : ℕ) → length rows ≡ 0 → 8 ≤ length bs → number_in (take 8 bs) ≡ s
+pub whole_voice : (m : Meaning) (voices : List ℕ) (rows : List RowData) (bs : List ℕ) (s : ℕ) → length rows ≡ 0 → 8 ≤ length bs → from_le_bytes w64 (take 8 bs) ≡ s
     → read_voice m voices rows bs ≡ if_passes (judged m (begun voices rows) (declare s)) (voice s)
 whole_voice m voices [] bs s e h f =
-    cond-false (ltb (length bs) 8) (fault 6 0 Sheet) (if_passes (judged m (begun voices []) (declare (number_in (take 8 bs)))) (voice (number_in (take 8 bs)))) (le-ltb (length bs) 8 h)
+    cond-false (ltb (length bs) 8) (fault 6 0 Sheet) (if_passes (judged m (begun voices []) (declare (from_le_bytes w64 (take 8 bs)))) (voice (from_le_bytes w64 (take 8 bs)))) (le-ltb (length bs) 8 h)
     ∙ ap (λ (n : ℕ). if_passes (judged m (begun voices []) (declare n)) (voice n)) f
 whole_voice m voices (r ∷ rows) bs s e h f = absurd (omega arith)
 
@@ -88,7 +88,7 @@ pub record VoiceHere (m : Meaning) (voices : List ℕ) (rows : List RowData) (bs
   pub no_rows : rows ≡ []
   pub long : 9 ≤ length bs
   pub mark : get_or bs 0 0 ≡ 0x56
-  pub number : number_in (take 8 (drop 1 bs)) ≡ s
+  pub number : from_le_bytes w64 (take 8 (drop 1 bs)) ≡ s
   pub passes : judged m (begun voices rows) (declare s) ≡ Judgement.passes
 
 -- a row
@@ -130,12 +130,12 @@ last_end b (x ∷ bs) k e = absurd (subst IsLast (sym e) tt)
 
 module _ (m : Meaning) (voices : List ℕ) (rows : List RowData) where
   read_voice_voice : (rs : List RowData) (bs : List ℕ) (s : ℕ) → read_voice m voices rs bs ≡ voice s
-      → (rs ≡ []) × (8 ≤ length bs) × (number_in (take 8 bs) ≡ s) × (judged m (begun voices rs) (declare s) ≡ Judgement.passes)
+      → (rs ≡ []) × (8 ≤ length bs) × (from_le_bytes w64 (take 8 bs) ≡ s) × (judged m (begun voices rs) (declare s) ≡ Judgement.passes)
   read_voice_voice [] bs s e =
       elim (cases_lt (length bs) 8) [
         | inl l ↦ absurd (subst IsVoice (sym (sym (cut_voice m voices [] bs refl l) ∙ e)) tt)
         | inr l ↦
-            let x = number_in (take 8 bs) in
+            let x = from_le_bytes w64 (take 8 bs) in
             let j = judged_voice (judged m (begun voices []) (declare x)) x s (sym (whole_voice m voices [] bs x refl l refl) ∙ e) in
             (refl, l, j.1, ap (λ (n : ℕ). judged m (begun voices []) (declare n)) (sym j.1) ∙ j.0)
       ]
@@ -146,7 +146,7 @@ module _ (m : Meaning) (voices : List ℕ) (rows : List RowData) where
       elim (cases_lt (length bs) 8) [
         | inl l ↦ subst IsRow (sym (sym (cut_voice m voices [] bs refl l) ∙ e)) tt
         | inr l ↦
-            let x = number_in (take 8 bs) in
+            let x = from_le_bytes w64 (take 8 bs) in
             no_row (judged m (begun voices []) (declare x)) x r (sym (whole_voice m voices [] bs x refl l refl) ∙ e)
       ]
   read_voice_no_row (x ∷ rs) bs r e = subst IsRow (sym e) tt
@@ -156,7 +156,7 @@ module _ (m : Meaning) (voices : List ℕ) (rows : List RowData) where
       elim (cases_lt (length bs) 8) [
         | inl l ↦ subst IsLast (sym (sym (cut_voice m voices [] bs refl l) ∙ e)) tt
         | inr l ↦
-            let x = number_in (take 8 bs) in
+            let x = from_le_bytes w64 (take 8 bs) in
             never_last (judged m (begun voices []) (declare x)) (voice x) (λ z. z) (sym (whole_voice m voices [] bs x refl l refl) ∙ e)
       ]
   read_voice_not_last (x ∷ rs) bs e = subst IsLast (sym e) tt

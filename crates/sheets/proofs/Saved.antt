@@ -2,6 +2,8 @@
 use Rattle.std.proofs.Common.{◌≡◌, ℕ, zero, suc, ◌+◌, ◌*◌, ◌^◌, ◌<◌, ◌≤◌, Bool, true, false, not, ◌&&◌, ◌||◌, eqb, ltb, leb, List, [], ◌∷◌, ◌++◌, length, take, drop, Ok, sym, refl, ap, ◌∙◌, subst, arith}
 use Rattle.std.proofs.lemmas.List.{append-nil, append_assoc, length-append, take_at, drop_at, get_or_at, get_or_append_left}
 use Rattle.std.proofs.lemmas.Bool.{and_from, and_parts, or_from, or_parts, cond-true, lt-ltb, lt-leb, le-ltb, eqb-true, eqb-false, ltb-true}
+use Rattle.std.specs.Int.{w64, to_le_bytes, from_le_bytes}
+use Rattle.std.proofs.lemmas.Nat.{from_le_bytes-to_le_bytes_8}
 use Rattle.rows.specs.Rows.{RowData, Meaning, Verdict}
 use Rattle.rows.specs.Laws.{Laws, Accepted}
 use Rattle.rows.specs.Bytes.{count_byte, head_length, lettered, counted, right_length, marked, Layout, LaidOut, decode, encode, member_bytes, total_bytes}
@@ -13,12 +15,11 @@ use Rattle.search.specs.Calls.Call.{post}
 use Rattle.rows.specs.Placed.{AllAccepted}
 use Rattle.search.specs.Results.{AllLaidOut}
 use Rattle.table.proofs.Judging.{voice_fits}
-use Rattle.sheets.specs.Sheets.{low_first, number_in, voice_record, voice_records, row_records, sheet}
+use Rattle.sheets.specs.Sheets.{voice_record, voice_records, row_records, sheet}
 use Rattle.sheets.specs.Reading.{if_passes, front_row, read_record, read_on, read_from, read_sheet}
 use Rattle.sheets.specs.Reading.RecordReading.{voice, row}
 use Rattle.sheets.specs.Reading.SheetReading.{accepted}
 use Rattle.sheets.specs.Laws.{Holdable}
-use Rattle.sheets.proofs.Numbers.{number_of_low_first, length_low_first}
 use Rattle.sheets.proofs.Records.{whole_voice, at_voice, at_row}
 
 -- ---- one row of many
@@ -110,10 +111,10 @@ module _ (m : Meaning) (L : Laws m) where
       let at = get_or_at voices s rest 0 (length voices) refl in
       let some : 0 < s = subst (λ (x : ℕ). 0 < x) at p.0 in
       let fits : s < 2 ^ 64 = subst (λ (x : ℕ). x < 2 ^ 64) at p.1 in
-      let low = low_first 8 s in
-      let number : number_in (take 8 (low ++ others)) ≡ s = ap number_in (take_at low others 8 (length_low_first 8 s)) ∙ number_of_low_first 8 s fits in
+      let low = to_le_bytes w64 s in
+      let number : from_le_bytes w64 (take 8 (low ++ others)) ≡ s = ap (from_le_bytes w64) (take_at low others 8 refl) ∙ from_le_bytes-to_le_bytes_8 s fits in
       at_voice m voices [] 0x56 (low ++ others) refl
-      ∙ whole_voice m voices [] (low ++ others) s refl (omega (arith, length-append low others, length_low_first 8 s)) number
+      ∙ whole_voice m voices [] (low ++ others) s refl (omega (arith, length-append low others)) number
       ∙ ap (λ (j : Judgement). if_passes j (voice s)) (voice_fits m (begun voices []) s (λ z. omega (arith, some, z)) (omega (arith, H.limited.voices, long)))
 
   voices_load : (rest : List ℕ) (rows : List RowData) (n at : ℕ) (voices : List ℕ) → Holdable m (voices ++ rest) rows → length (voice_records rest ++ (row_records rows ++ (0x5A ∷ []))) < n
@@ -128,7 +129,7 @@ module _ (m : Meaning) (L : Laws m) where
       let more = append_assoc voices (s ∷ []) rest in
       ap (read_from m (suc n) at voices []) split
       ∙ ap (read_on m (read_from m n) at voices [] (voice_record s ++ others)) (read_voice_here voices s rest rows others H)
-      ∙ ap (read_from m n (at + 9) (voices ++ (s ∷ [])) []) (drop_at (voice_record s) others 9 (ap suc (length_low_first 8 s)))
+      ∙ ap (read_from m n (at + 9) (voices ++ (s ∷ [])) []) (drop_at (voice_record s) others 9 refl)
       ∙ voices_load rest rows n (at + 9) (voices ++ (s ∷ [])) (subst (λ (x : List ℕ). Holdable m x rows) (sym more) H) (omega (arith, l, ap length split, length-append (voice_record s) others))
       ∙ ap (λ (x : List ℕ). accepted x rows) more
 

@@ -1,11 +1,11 @@
 -- Reading a sheet: record after record, each judged beside the voices and rows of the records before it.
 use Rattle.std.specs.Prelude.{ℕ, zero, suc, ◌+◌, ◌*◌, cond, List, [], ◌∷◌, ◌++◌, length, take, drop, ◌==◌, nat_lt}
+use Rattle.std.specs.Int.{w64, from_le_bytes}
 use Rattle.rows.specs.Rows.{RowData, Meaning}
 use Rattle.rows.specs.Bytes.{count_byte, head_length, lettered, decode}
 use Rattle.rows.specs.Refusing.{Judgement, judge, voice_reasons, row_reasons}
 use Rattle.sheets.specs.declared.refusal.Layer.{Layer}
 use Rattle.sheets.specs.declared.refusal.Layer.TheVariants.{Sheet}
-use Rattle.sheets.specs.Sheets.{number_in}
 use Rattle.sheets.specs.Causes.{layer_of}
 
 -- ---- one record
@@ -33,7 +33,7 @@ abbrev pub read_voice : Meaning → List ℕ → List RowData → List ℕ → R
 read_voice m voices (r ∷ rows) bs = fault 3 0 Sheet
 read_voice m voices [] bs =
     cond (nat_lt (length bs) 8) (fault 6 0 Sheet)
-    (if_passes (judge (voice_reasons voices (number_in (take 8 bs)))) (voice (number_in (take 8 bs))))
+    (if_passes (judge (voice_reasons voices (from_le_bytes w64 (take 8 bs)))) (voice (from_le_bytes w64 (take 8 bs))))
 
 -- the bytes of the row at the front: as many as letter and count ask for, or all where they are fewer or the bank does not know the letter
 abbrev pub front_row : Meaning → List ℕ → List ℕ

@@ -1,21 +1,12 @@
 -- A sheet, a table's voices and rows as bytes: for each voice hex 56 and its opening set in 8 bytes, low byte first; then the rows; then hex 5A.
-use Rattle.std.specs.Prelude.{ℕ, zero, suc, ◌+◌, ◌*◌, ◌/◌, ◌%◌, List, [], ◌∷◌, ◌++◌, flat_map}
+use Rattle.std.specs.Prelude.{ℕ, List, [], ◌∷◌, ◌++◌, flat_map}
+use Rattle.std.specs.Int.{w64, to_le_bytes}
 use Rattle.rows.specs.Rows.{RowData}
 use Rattle.rows.specs.WrittenRows.{written_row}
 
--- a number in so many bytes, low byte first
-abbrev pub low_first : ℕ → ℕ → List ℕ
-low_first zero n = []
-low_first (suc k) n = n % 0x100 ∷ low_first k (n / 0x100)
-
--- the number that bytes stand for, low byte first
-abbrev pub number_in : List ℕ → ℕ
-number_in [] = 0
-number_in (b ∷ bs) = b + 0x100 * number_in bs
-
 -- the record of a voice, by its opening set
 abbrev pub voice_record : ℕ → List ℕ
-voice_record s = 0x56 ∷ low_first 8 s
+voice_record s = 0x56 ∷ to_le_bytes w64 s
 
 -- the records of voices, and of rows
 abbrev pub voice_records : List ℕ → List ℕ

@@ -9,10 +9,8 @@ use Rattle.search.specs.Calls.Call.{declare}
 use Rattle.table.specs.Shown.{model, store_in, rows_in}
 use Rattle.sheets.specs.declared.refusal.RecordRefusal.TheVariants.{LateVoice, CutVoice}
 use Rattle.sheets.specs.declared.refusal.Layer.TheVariants.{Sheet}
-use Rattle.sheets.specs.Sheets.{number_in}
 use Rattle.sheets.specs.Reading.{read_voice, if_passes}
 use Rattle.sheets.specs.Reading.RecordReading.{voice, fault}
-use Rattle.sheets.proofs.Numbers.{eight_bytes}
 use Rattle.sheets.proofs.Records.{late_voice, cut_voice, whole_voice}
 use Rattle.sheets.proofs.Steps.{at_reading, voice_declared, voice_declined}
 use Rattle.sheets.proofs.load.read_voice.Goals as goal
@@ -53,7 +51,7 @@ returns-in_err-declare g c =
     let d = c.in_err-declare.ensures.does in
     let none : length (rows_in t) ≡ 0 = sym (ap length c.rows.ensures) ∙ length-map c.rows.result.now row_of ∙ eqb-true (length c.rows.result.now) 0 (sym c.if-not-is_empty.ensures) in
     let long : 8 ≤ length bs = c.in-Some.ensures.cases.enough in
-    let number : number_in (take 8 bs) ≡ s = eight_bytes bs long ∙ ap (from_le_bytes w64) (sym c.in-Some.ensures.cases.same) ∙ sym c.from_le_bytes.ensures in
+    let number : from_le_bytes w64 (take 8 bs) ≡ s = ap (from_le_bytes w64) (sym c.in-Some.ensures.cases.same) ∙ sym c.from_le_bytes.ensures in
     at_reading g.S.Store.behaviour m (model t) (model u) v w (if_passes (judged m (begun (vec_items t.voices) (rows_in t)) (declare s)) (voice s)) (read_voice m (vec_items t.voices) (rows_in t) bs) r
     (whole_voice m (vec_items t.voices) (rows_in t) bs s none long number)
     (voice_declined g.S.Store.behaviour m (model t) (model u) v w s r refusal c.requires (p.1 ∙ ap Err p.2) d)
@@ -70,7 +68,7 @@ returns g c =
     let d = c.in_ok-declare.ensures.does in
     let none : length (rows_in t) ≡ 0 = sym (ap length c.rows.ensures) ∙ length-map c.rows.result.now row_of ∙ eqb-true (length c.rows.result.now) 0 (sym c.if-not-is_empty.ensures) in
     let long : 8 ≤ length bs = c.in-Some.ensures.cases.enough in
-    let number : number_in (take 8 bs) ≡ s = eight_bytes bs long ∙ ap (from_le_bytes w64) (sym c.in-Some.ensures.cases.same) ∙ sym c.from_le_bytes.ensures in
+    let number : from_le_bytes w64 (take 8 bs) ≡ s = ap (from_le_bytes w64) (sym c.in-Some.ensures.cases.same) ∙ sym c.from_le_bytes.ensures in
     at_reading g.S.Store.behaviour m (model t) (model u) v w (if_passes (judged m (begun (vec_items t.voices) (rows_in t)) (declare s)) (voice s)) (read_voice m (vec_items t.voices) (rows_in t) bs) (Ok (Some 9))
     (whole_voice m (vec_items t.voices) (rows_in t) bs s none long number)
     (voice_declared g.S.Store.behaviour m (model t) (model u) v w s d)
