@@ -3,7 +3,6 @@
 
 pub mod laws;
 pub mod load;
-mod marks;
 mod record;
 pub mod refusal;
 pub mod save;

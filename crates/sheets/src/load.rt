@@ -6,11 +6,11 @@ ghost use Rattle.sheets.specs.Reading.{front_row, read_voice, read_row, read_rec
 ghost use Rattle.sheets.specs.Loading.{load_answer, reading_answer, LoadLeaves, LoadBack, LoadExtends, Unsearched, RecordRead, RecordsRead};
 ghost use Rattle.sheets.specs.Saving.{sheet_of};
 
+use crate::record::{END_MARK, VOICE_MARK};
 use crate::refusal::{RecordRefusal, SheetRefusal};
-use crate::marks::{END_MARK, VOICE_MARK};
-use table::Table;
 use rows::bank::Bank;
 use stores::store::Store;
+use table::Table;
 
 // The bytes of the row at the front: as many as letter and count ask for, or all where they are fewer or the bank does not know the letter.
 fn front_row<B: Bank>(bytes: &[u8]) -> &[u8]
@@ -79,7 +79,10 @@ fn read_record<B: Bank, S: Store>(
 }
 
 // Reads records until the sheet ends, or one is faulty.
-fn read_records<B: Bank, S: Store>(table: &mut Table<B, S>, bytes: &[u8]) -> Result<(), SheetRefusal>
+fn read_records<B: Bank, S: Store>(
+    table: &mut Table<B, S>,
+    bytes: &[u8],
+) -> Result<(), SheetRefusal>
     requires { model table.old ≡ empty }
     ensures { RecordsRead S.Store.behaviour B.Bank.meaning bytes.now (store_in table.old) (model table.new) (store_in table.new) (read_sheet B.Bank.meaning bytes.now) result }
 {

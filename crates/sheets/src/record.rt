@@ -5,11 +5,15 @@ ghost use Rattle.rows.specs.Written.{Wrote};
 ghost use Rattle.rows.specs.WrittenRows.{written_member, written_row};
 ghost use Rattle.sheets.specs.Sheets.{voice_record};
 
-use crate::marks::VOICE_MARK;
 use rows::member::{MEMBER_MARK, Member};
 use rows::row::Row;
-use sets::ValueSet;
 use rows::writer::Writer;
+use sets::ValueSet;
+
+// What begins the record of a voice, and what ends a sheet.
+pub(crate) const VOICE_MARK: u8 = 0x56;
+
+pub(crate) const END_MARK: u8 = 0x5A;
 
 // What is saved as bytes.
 pub(crate) trait Record {

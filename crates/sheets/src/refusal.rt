@@ -1,12 +1,13 @@
-// Why a sheet is declined.
-ghost use Rattle.std.specs.Prelude.{◌≡◌, Some, decimal};
+// Why a sheet is refused.
+ghost use Rattle.std.specs.Prelude.{◌≡◌, Some};
 ghost use Rattle.sheets.specs.declared.refusal.RecordRefusal.TheVariants.{ByTable};
-ghost use Rattle.sheets.specs.Causes.{cause_number, layer_name, cause_layer, cause_offset};
+ghost use Rattle.sheets.specs.Causes.{layer_name, cause_number, cause_layer, cause_offset, cause_text, sheet_refusal_text};
 
-use table::refusal::Refusal;
+use std::error::Error;
 use std::fmt;
+use table::refusal::Refusal;
 
-// Who declines: the reader of the sheet, the reader of a row with its kind, or the table.
+/// Who refuses: the reader of the sheet, the reader of a row with its kind, or the table.
 #[derive(Clone, Copy, Debug, PartialEq, Eq)]
 pub enum Layer {
     Sheet,
@@ -15,7 +16,7 @@ pub enum Layer {
 }
 
 impl Layer {
-    // The layer's name, as a report has it.
+    /// The layer's name, as a report has it.
     pub fn name(self) -> &'static str
         ensures { result.now ≡ layer_name self }
     {
@@ -35,23 +36,23 @@ impl fmt::Display for Layer {
     }
 }
 
-// What is wrong with a record.
+/// What is wrong with a record.
 #[derive(Clone, Copy, Debug, PartialEq, Eq)]
 pub enum RecordRefusal {
-    // the bytes end where a record should begin
+    /// The bytes end where a record should begin.
     NoRecord,
-    // a voice's record follows a row
+    /// A voice's record follows a row.
     LateVoice,
-    // bytes follow the sheet's end
+    /// Bytes follow the sheet's end.
     Trailing,
-    // the bytes end inside a voice's record
+    /// The bytes end inside a voice's record.
     CutVoice,
-    // the table declines the voice or the row that the record stands for
+    /// The table refuses the voice or the row that the record stands for.
     ByTable(Refusal),
 }
 
 impl RecordRefusal {
-    // The refusal's number.
+    /// The refusal's number. With the layer it says what is wrong.
     pub fn number(self) -> u8
         ensures { result ≡ cause_number self }
     {
@@ -64,7 +65,7 @@ impl RecordRefusal {
         }
     }
 
-    // The layer that declines.
+    /// The layer that refuses.
     pub fn layer(self) -> Layer
         ensures { result ≡ cause_layer self }
     {
@@ -75,7 +76,7 @@ impl RecordRefusal {
         }
     }
 
-    // How far from its record's first byte the fault's place is.
+    // How far from its record's first byte the refusal's place is.
     pub(crate) fn offset(self) -> usize
         ensures { result ≡ cause_offset self }
     {
@@ -86,14 +87,22 @@ impl RecordRefusal {
     }
 }
 
-// The refusal's number, in decimal.
+// What is wrong, in words.
 impl fmt::Display for RecordRefusal {
-    ghost output = { λ cause. Some (decimal (cause_number cause)) };
+    ghost output = { λ cause. Some (cause_text cause) };
 
     fn fmt<W: fmt::Write>(&self, f: &mut fmt::Formatter<W>) -> fmt::Result {
-        write!(f, "{}", self.number())
+        match self {
+            RecordRefusal::NoRecord => f.write_str("the bytes end where a record should begin"),
+            RecordRefusal::LateVoice => f.write_str("a voice follows a row"),
+            RecordRefusal::Trailing => f.write_str("bytes follow the sheet's end"),
+            RecordRefusal::CutVoice => f.write_str("the bytes end inside a voice"),
+            RecordRefusal::ByTable(refusal) => write!(f, "the table refuses it: {refusal}"),
+        }
     }
 }
+
+impl Error for RecordRefusal {}
 
 impl From<Refusal> for RecordRefusal {
     ghost from_gives = { λ refusal r. r ≡ ByTable refusal };
@@ -103,9 +112,22 @@ impl From<Refusal> for RecordRefusal {
     }
 }
 
-// A fault of a sheet: its cause and its place, in bytes from the sheet's first.
+/// Why a sheet is refused: what is wrong with its first faulty record, and where.
 #[derive(Clone, Copy, Debug, PartialEq, Eq)]
 pub struct SheetRefusal {
     pub cause: RecordRefusal,
+    /// In bytes from the sheet's first.
     pub place: usize,
 }
+
+// What is wrong and where, in words.
+impl fmt::Display for SheetRefusal {
+    ghost output = { λ refusal. Some (sheet_refusal_text refusal) };
+
+    fn fmt<W: fmt::Write>(&self, f: &mut fmt::Formatter<W>) -> fmt::Result {
+        let SheetRefusal { cause, place } = *self;
+        write!(f, "{cause}, at byte {place}")
+    }
+}
+
+impl Error for SheetRefusal {}

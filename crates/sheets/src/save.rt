@@ -3,15 +3,14 @@ ghost use Rattle.std.specs.Prelude.{◌≡◌};
 ghost use Rattle.table.specs.Shown.{model, store_in};
 ghost use Rattle.sheets.specs.Saving.{sheet_of, written_answer, buffer_after, LoadsAgain};
 
-use crate::marks::END_MARK;
-use crate::record::write_all;
-use table::refusal::Refusal;
-use table::Table;
+use crate::record::{END_MARK, write_all};
 use rows::bank::Bank;
-use stores::store::Store;
 use rows::writer::Writer;
+use stores::store::Store;
+use table::Table;
+use table::refusal::Refusal;
 
-// Writes the table's sheet at the front of `out`, and answers its length; bytes beyond it stay.
+/// Writes the table's sheet at the front of `out` and returns its length in bytes; bytes beyond it stay.
 pub fn save<B: Bank, S: Store>(table: &Table<B, S>, out: &mut [u8]) -> Result<usize, Refusal>
     ensures value { result ≡ written_answer (sheet_of table.now) out.old }
     ensures after { out.new ≡ buffer_after (sheet_of table.now) out.old }
