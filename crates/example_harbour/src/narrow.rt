@@ -1,27 +1,13 @@
-// The title narrowed: its rows take turns, round after round, until a round changes nothing or a voice has no place left.
+// The title narrowed: its rows take turns, round after round, until a round changes nothing or some voice has no place
+// left.
 use crate::{show, title};
 use kinds::FourKinds;
 use rows::bank::Bank;
-use rows::kind::Kind;
-use rows::reading::accept_bytes;
 use rows::row::Row;
 use rows::trace::Trace;
 use search::propagation::propagate;
 use sets::ValueSet;
 use std::io;
-
-// The rows that the bytes stand for; says which the kinds decline, and leaves those out.
-fn read_rows(rt: &HostRuntime, texts: &[Vec<u8>], voices: usize) -> io::Result<Vec<Row>> {
-    let mut rows = Vec::new(rt.alloc());
-    for (i, bytes) in texts.iter().enumerate() {
-        let mut row = Row::new(rt.alloc(), 0)?;
-        match accept_bytes::<FourKinds>(bytes, voices, &mut row) {
-            Ok(()) => rows.push(row)?,
-            Err(fault) => println!(rt; "row {i} is declined with {fault}")?,
-        }
-    }
-    Ok(rows)
-}
 
 fn print_voices(rt: &HostRuntime, after: &[ValueSet]) -> io::Result<()> {
     println!(rt; "voices (lanes and banks before -> after)")?;
@@ -47,16 +33,14 @@ fn print_traces(rt: &HostRuntime, rows: &[Row], sets: &[ValueSet]) -> io::Result
 }
 
 // Narrows the title and prints each voice's set before and after, and each row's trace.
-pub(crate) fn narrow_title(rt: &HostRuntime, texts: &[Vec<u8>]) -> io::Result<()> {
+pub(crate) fn narrow_title(rt: &HostRuntime, rows: &[Row]) -> io::Result<()> {
     let mut sets = title::VOICES
         .iter()
         .map(|voice| voice.places)
         .collect::<Vec<ValueSet>>(rt.alloc())?;
-    let voices = sets.len();
-    let rows = read_rows(rt, texts, voices)?;
-    let emptied = propagate::<FourKinds>(&rows, &mut sets);
+    let emptied = propagate::<FourKinds>(rows, &mut sets);
     print_voices(rt, &sets)?;
-    print_traces(rt, &rows, &sets)?;
+    print_traces(rt, rows, &sets)?;
     if emptied {
         println!(rt; "some voice has no place left")
     } else {

@@ -1,8 +1,8 @@
-// Sets and rows in words.
+// Sets and rows as text.
 use sets::{ValueSet, contains};
 use std::alloc::{AllocError, Global};
 
-// The values of a set in braces, ascending. (Not by Display: a set is a number to the language, which prints otherwise.)
+// The values of a set in braces, ascending. (A function and not Display: to the language a set is a number.)
 pub(crate) fn set_text(heap: Global, set: ValueSet) -> Result<String, AllocError> {
     let mut text = String::from_str(heap, "{")?;
     for value in (0..64u32).filter(|v| contains(set, *v)) {

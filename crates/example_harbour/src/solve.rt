@@ -1,30 +1,39 @@
 // The title solved, a few nodes at a time.
 use crate::title;
-use table::outcome::Outcome;
 use kinds::FourKinds;
-use table::{MOST_VOICES, Table};
+use rows::row::Row;
 use std::io;
 use stores::store::Store;
+use table::outcome::Outcome;
+use table::{MOST_VOICES, Table};
 
 // How many nodes each call of `solve` may open, and how often it is called at most.
 const BUDGET: u64 = 4;
 
 const MOST_CALLS: u32 = 1_000;
 
-// Declares the title's voices and posts its rows; says what is declined.
-fn fill<S: Store>(
-    rt: &HostRuntime,
-    table: &mut Table<FourKinds, S>,
-    texts: &[Vec<u8>],
-) -> io::Result<()> {
+// Declares the title's voices. One that is declined is printed with its refusal's number.
+fn declare_voices<S: Store>(rt: &HostRuntime, table: &mut Table<FourKinds, S>) -> io::Result<()> {
     for (i, voice) in title::VOICES.iter().enumerate() {
         if let Err(refusal) = table.declare(voice.places) {
-            println!(rt; "voice {i} is declined with {refusal}")?;
+            let number = refusal.number();
+            println!(rt; "voice {i} is declined with {number}")?;
         }
     }
-    for (i, bytes) in texts.iter().enumerate() {
-        if let Err(refusal) = table.post(bytes) {
-            println!(rt; "row {i} is declined with {refusal}")?;
+    Ok(())
+}
+
+// Posts the rows. One that is declined is printed with its refusal's number.
+fn post_rows<S: Store>(
+    rt: &HostRuntime,
+    table: &mut Table<FourKinds, S>,
+    rows: &[Row],
+) -> io::Result<()> {
+    for (i, row) in rows.iter().enumerate() {
+        let bytes = row.to_bytes(rt.alloc())?;
+        if let Err(refusal) = table.post(&bytes) {
+            let number = refusal.number();
+            println!(rt; "row {i} is declined with {number}")?;
         }
     }
     Ok(())
@@ -42,14 +51,15 @@ fn print_placing<S: Store>(rt: &HostRuntime, table: &Table<FourKinds, S>) -> io:
     Ok(())
 }
 
-// Solves the title over the store, and prints what happened at each stop, and the placing at the end.
+// Solves the title over the store. Prints the outcome and the counts after each call, and the placing at the end.
 pub(crate) fn solve_title<S: Store + Drop>(
     rt: &HostRuntime,
     store: S,
-    texts: &[Vec<u8>],
+    rows: &[Row],
 ) -> io::Result<()> {
     let mut table: Table<FourKinds, S> = Table::make(rt.alloc(), store)?;
-    fill(rt, &mut table, texts)?;
+    declare_voices(rt, &mut table)?;
+    post_rows(rt, &mut table, rows)?;
     println!(rt; "solving, {BUDGET} nodes at a time")?;
     for _ in 0..MOST_CALLS {
         let Ok(outcome) = table.solve(BUDGET) else {

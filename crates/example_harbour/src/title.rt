@@ -1,19 +1,23 @@
 // The built-in title: ten voices and eight rows.
-use rows::member::MEMBER_MARK;
+use kinds::all_different::AllDifferent;
+use kinds::clause::{Clause, Literal};
+use kinds::element::Element;
+use kinds::linear::Linear;
+use rows::row::{Row, RowError};
 use sets::ValueSet;
-use std::alloc::{AllocError, Global};
+use std::alloc::Global;
 
-pub const NAME: &str = "Harbour at Dawn";
+pub(crate) const NAME: &str = "Harbour at Dawn";
 
-// A voice: what it is called, and the lanes or banks that it may take.
+// A voice: its name, and the lanes or banks that it may take.
 #[derive(Clone, Copy)]
-pub struct Voice {
-    pub name: &'static str,
-    pub places: ValueSet,
+pub(crate) struct Voice {
+    pub(crate) name: &'static str,
+    pub(crate) places: ValueSet,
 }
 
-// The voices; all but the last two are placed on mixer lanes, those on sample banks.
-pub static VOICES: [Voice; 10] = [
+// The voices. The last two are placed on sample banks, the others on mixer lanes.
+pub(crate) static VOICES: [Voice; 10] = [
     Voice {
         name: "lead",
         places: 0b0000_1111,
@@ -56,96 +60,26 @@ pub static VOICES: [Voice; 10] = [
     },
 ];
 
-// The bytes of a row, which is what a table is given: its letter, its body, and for each member M, a voice and an argument.
-fn row(
-    heap: Global,
-    letter: u8,
-    body: &[u8],
-    members: &[(u8, i16)],
-) -> Result<Vec<u8>, AllocError> {
-    let mut bytes = vec![in heap; letter]?;
-    bytes.extend_from_slice(body)?;
-    for (voice, argument) in members {
-        let [low, high] = argument.to_le_bytes();
-        bytes.extend_from_slice(&[MEMBER_MARK, *voice, low, high])?;
-    }
-    Ok(bytes)
-}
+// The bank that each lane is wired to.
+const WIRING: [u8; 8] = [4, 4, 5, 5, 4, 7, 6, 7];
 
-// The six voices of the rhythm section take lanes of their own.
-fn own_lanes(heap: Global) -> Result<Vec<u8>, AllocError> {
-    row(
-        heap,
-        b'A',
-        &[6],
-        &[(0, 0), (1, 0), (2, 0), (3, 0), (4, 0), (5, 0)],
-    )
-}
-
-// The load 2 x bass + 3 x kick + 2 x snare + hat is at most 26.
-fn load_limit(heap: Global) -> Result<Vec<u8>, AllocError> {
-    row(
-        heap,
-        b'L',
-        &[4, 26, 0, 0, 0],
-        &[(1, 2), (3, 3), (4, 2), (5, 1)],
-    )
-}
-
-// The strings are on lane 0, or the pad is not on lane 2.
-fn exclusion(heap: Global) -> Result<Vec<u8>, AllocError> {
-    row(heap, b'C', &[2], &[(6, 0), (2, 66)])
-}
-
-// The bank of a voice is the one that its lane is wired to.
-fn wiring(heap: Global, voice: u8, bank: u8) -> Result<Vec<u8>, AllocError> {
-    let entries = [
-        (0, 4),
-        (0, 4),
-        (0, 5),
-        (0, 5),
-        (0, 4),
-        (0, 7),
-        (0, 6),
-        (0, 7),
-    ];
-    row(heap, b'E', &[8, voice, bank], &entries)
-}
-
-// The choir is at least four lanes above the strings: strings - choir <= -4.
-fn apart(heap: Global) -> Result<Vec<u8>, AllocError> {
-    row(heap, b'L', &[2, 0xFC, 0xFF, 0xFF, 0xFF], &[(6, 1), (7, -1)])
-}
-
-// The loudness 5 x kick + 6 x snare + 3 x hat + 5 x choir is at most 71, and at least 71.
-fn loudness_at_most(heap: Global) -> Result<Vec<u8>, AllocError> {
-    row(
-        heap,
-        b'L',
-        &[4, 71, 0, 0, 0],
-        &[(3, 5), (4, 6), (5, 3), (7, 5)],
-    )
-}
-
-fn loudness_at_least(heap: Global) -> Result<Vec<u8>, AllocError> {
-    row(
-        heap,
-        b'L',
-        &[4, 0xB9, 0xFF, 0xFF, 0xFF],
-        &[(3, -5), (4, -6), (5, -3), (7, -5)],
-    )
-}
-
-// The title's rows as bytes, in the order in which they take turns.
-pub(crate) fn rows(heap: Global) -> Result<[Vec<u8>; 8], AllocError> {
+// The title's rows, in the order in which they take turns. They name the voices by their places in the list above.
+pub(crate) fn rows(heap: Global) -> Result<[Row; 8], RowError> {
+    let strings_on_0 = Literal::Is { voice: 6, value: 0 };
+    let pad_not_on_2 = Literal::IsNot { voice: 2, value: 2 };
     Ok([
-        own_lanes(heap)?,
-        load_limit(heap)?,
-        exclusion(heap)?,
-        wiring(heap, 6, 8)?,
-        wiring(heap, 7, 9)?,
-        apart(heap)?,
-        loudness_at_most(heap)?,
-        loudness_at_least(heap)?,
+        // the first six voices take lanes of their own
+        AllDifferent::row(heap, &[0, 1, 2, 3, 4, 5])?,
+        // the load 2 × bass + 3 × kick + 2 × snare + hat is at most 26
+        Linear::row(heap, 26, &[(1, 2), (3, 3), (4, 2), (5, 1)])?,
+        Clause::row(heap, &[strings_on_0, pad_not_on_2])?,
+        // the bank of the strings, and that of the choir, is the one that its lane is wired to
+        Element::row(heap, 6, 8, &WIRING)?,
+        Element::row(heap, 7, 9, &WIRING)?,
+        // the choir is at least four lanes above the strings: strings - choir <= -4
+        Linear::row(heap, -4, &[(6, 1), (7, -1)])?,
+        // the loudness 5 × kick + 6 × snare + 3 × hat + 5 × choir is at most 71, and at least 71
+        Linear::row(heap, 71, &[(3, 5), (4, 6), (5, 3), (7, 5)])?,
+        Linear::row(heap, -71, &[(3, -5), (4, -6), (5, -3), (7, -5)])?,
     ])
 }
