@@ -1,14 +1,16 @@
 // Rows of values that all differ.
 use crate::example::Example;
-use crate::problem::{Problem, all_different, finds, set};
+use crate::problem::{Problem, finds, set};
+use kinds::all_different::AllDifferent;
 use rows::trace::Trace;
 use std::alloc::Global;
 
-// Five voices differ. The first two are 1 and 2, or 2 and 1: both times the other three have to avoid 1 and 2 and each other, and their sets are the
-// same, so that the subproblems are equivalent. The content is the set {1, 2}, and the key the open sets {2, 3, 4}, {3, 4, 5}, {3, 4, 5} and that
-// content, both times.
+// Five voices differ. The first two are 1 and 2, or 2 and 1: both times the other three have to avoid 1 and 2 and
+// each other, and their sets are the same, so that the subproblems are equivalent. The content is the set {1, 2}, and
+// the key the open sets {2, 3, 4}, {3, 4, 5}, {3, 4, 5} and that content, both times.
 pub(crate) fn swapped_values(heap: Global) -> anyhow::Result<Example> {
-    let problem = Problem::new(heap, 5, &[all_different(heap, &[0, 1, 2, 3, 4])?])?;
+    let row = AllDifferent::row(heap, &[0, 1, 2, 3, 4])?;
+    let problem = Problem::new(5, vec![in heap; row]?)?;
     let c = set(&[2, 3, 4]);
     let d = set(&[3, 4, 5]);
     let first = problem.key(heap, &[set(&[1]), set(&[2]), c, d, d])?;
@@ -23,10 +25,12 @@ pub(crate) fn swapped_values(heap: Global) -> anyhow::Result<Example> {
     ))
 }
 
-// Six voices differ, each from 1 to 6. The first three are 3 4 5, or 4 5 3. Values kept voice by voice would tell the two apart; what matters is the
-// set {3, 4, 5}, which is the content both times, and that propagation leaves {1, 2, 6} to each of the other three.
+// Six voices differ, each from 1 to 6. The first three are 3 4 5, or 4 5 3. Values kept voice by voice would tell the
+// two apart; what matters is the set {3, 4, 5}, which is the content both times, and that propagation leaves {1, 2,
+// 6} to each of the other three.
 pub(crate) fn values_in_another_order(heap: Global) -> anyhow::Result<Example> {
-    let problem = Problem::new(heap, 6, &[all_different(heap, &[0, 1, 2, 3, 4, 5])?])?;
+    let row = AllDifferent::row(heap, &[0, 1, 2, 3, 4, 5])?;
+    let problem = Problem::new(6, vec![in heap; row]?)?;
     let all = set(&[1, 2, 3, 4, 5, 6]);
     let three = set(&[3]);
     let four = set(&[4]);
@@ -45,17 +49,19 @@ pub(crate) fn values_in_another_order(heap: Global) -> anyhow::Result<Example> {
     ))
 }
 
-// The neighbours in a line of four voices differ, the first two are 3 and 4, and the set of the third has lost 4. Nothing needs to be kept of any
-// pair: of the first, since both are fixed and differ; of the second, since its fixed voice's value is gone from the third's set, so that the pair
-// holds; of the last, since none of its voices is fixed. The traces say so of the first, which is settled, and of the last, whose content is empty;
-// of the second the 4 is kept, which is more than need be, but never wrong. The first voice matters no more: 5 in place of its 3 leaves the same key.
+// The neighbours in a line of four voices differ, the first two are 3 and 4, and the set of the third has lost 4.
+// Nothing needs to be kept of any pair: of the first, since both are fixed and differ; of the second, since its fixed
+// voice's value is gone from the third's set, so that the pair holds; of the last, since none of its voices is fixed.
+// The traces say so of the first, which is settled, and of the last, whose content is empty; of the second the 4 is
+// kept, which is more than need be, but never wrong. The first voice matters no more: 5 in place of its 3 leaves the
+// same key.
 pub(crate) fn unequal_pairs(heap: Global) -> anyhow::Result<Example> {
-    let pairs = [
-        all_different(heap, &[0, 1])?,
-        all_different(heap, &[1, 2])?,
-        all_different(heap, &[2, 3])?,
-    ];
-    let problem = Problem::new(heap, 4, &pairs)?;
+    let pairs = vec![in heap;
+        AllDifferent::row(heap, &[0, 1])?,
+        AllDifferent::row(heap, &[1, 2])?,
+        AllDifferent::row(heap, &[2, 3])?,
+    ]?;
+    let problem = Problem::new(4, pairs)?;
     let four = set(&[4]);
     let c = set(&[0, 1, 2, 3, 5, 6]);
     let d = set(&[0, 1, 2, 3, 4, 5, 6]);

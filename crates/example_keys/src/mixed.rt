@@ -1,15 +1,17 @@
 // Six voices that all differ, with a + 2b + c + d + 2e <= 20 over the first five.
 use crate::example::Example;
-use crate::problem::{Problem, all_different, at_most, finds, set};
+use crate::problem::{Problem, finds, set};
+use kinds::all_different::AllDifferent;
+use kinds::linear::Linear;
 use sets::ValueSet;
 use std::alloc::Global;
 
 fn problem(heap: Global) -> anyhow::Result<Problem> {
-    let rows = [
-        all_different(heap, &[0, 1, 2, 3, 4, 5])?,
-        at_most(heap, &[(0, 1), (1, 2), (2, 1), (3, 1), (4, 2)], 20)?,
-    ];
-    Problem::new(heap, 6, &rows)
+    let rows = vec![in heap;
+        AllDifferent::row(heap, &[0, 1, 2, 3, 4, 5])?,
+        Linear::row(heap, 20, &[(0, 1), (1, 2), (2, 1), (3, 1), (4, 2)])?,
+    ]?;
+    Problem::new(6, rows)
 }
 
 // The first three voices fixed to these values, d and e from {0, 1, 2}, the last from {1, 2, 6}.
@@ -24,9 +26,9 @@ fn fixed_to(first: u32, second: u32, third: u32) -> [ValueSet; 6] {
     ]
 }
 
-// With 3 4 5 the key says which voices are fixed, that their values are {3, 4, 5}, that they add 3 + 2 × 4 + 5 = 16, so that d + 2e <= 4, and has the
-// open sets. No turn can take a value: 3, 4 and 5 are in no open set, and each of d and e can still be 2. As words: a fixed voice is 0, the values
-// are a mask, and the sum has 4,000,000 added.
+// With 3 4 5 the key says which voices are fixed, that their values are {3, 4, 5}, that they add 3 + 2 × 4 + 5 = 16,
+// so that d + 2e <= 4, and has the open sets. No turn can take a value: 3, 4 and 5 are in no open set, and each of d
+// and e can still be 2. As words: a fixed voice is 0, the values are a mask, and the sum has 4,000,000 added.
 pub(crate) fn whole_key(heap: Global) -> anyhow::Result<Example> {
     let problem = problem(heap)?;
     let sets = fixed_to(3, 4, 5);
@@ -51,8 +53,8 @@ pub(crate) fn whole_key(heap: Global) -> anyhow::Result<Example> {
     ))
 }
 
-// With 5 4 3 in place of 3 4 5 the values are the same, and so is the sum, 5 + 2 × 4 + 3 = 16: with equal open sets the keys are equal, and the store
-// finds the one by the other.
+// With 5 4 3 in place of 3 4 5 the values are the same, and so is the sum, 5 + 2 × 4 + 3 = 16: with equal open sets
+// the keys are equal, and the store finds the one by the other.
 pub(crate) fn same_values_and_sum(heap: Global) -> anyhow::Result<Example> {
     let problem = problem(heap)?;
     let first = problem.key(heap, &fixed_to(3, 4, 5))?;
@@ -64,9 +66,9 @@ pub(crate) fn same_values_and_sum(heap: Global) -> anyhow::Result<Example> {
     ))
 }
 
-// With 4 5 3 the values are the same, but the sum is 4 + 2 × 5 + 3 = 17 and leaves d + 2e <= 3, so that e loses the 2. That is dominated by 3 4 5,
-// which leaves d + 2e <= 4 and more to e. The all different row has the same content, but a store that compares for equality does not find it: the
-// sums and e's sets differ.
+// With 4 5 3 the values are the same, but the sum is 4 + 2 × 5 + 3 = 17 and leaves d + 2e <= 3, so that e loses the
+// 2. That is dominated by 3 4 5, which leaves d + 2e <= 4 and more to e. The all different row has the same content,
+// but a store that compares for equality does not find it: the sums and e's sets differ.
 pub(crate) fn larger_sum_is_dominated(heap: Global) -> anyhow::Result<Example> {
     let problem = problem(heap)?;
     let earlier = fixed_to(3, 4, 5);

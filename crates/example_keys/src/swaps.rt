@@ -1,18 +1,21 @@
 // Five voices that all differ, with a + 4 <= d + e, which is the row a - d - e <= -4.
 use crate::example::Example;
-use crate::problem::{Problem, all_different, at_most, finds, set};
+use crate::problem::{Problem, finds, set};
+use kinds::all_different::AllDifferent;
+use kinds::linear::Linear;
 use sets::ValueSet;
 use std::alloc::{AllocError, Global};
 
 fn problem(heap: Global) -> anyhow::Result<Problem> {
-    let rows = [
-        all_different(heap, &[0, 1, 2, 3, 4])?,
-        at_most(heap, &[(0, 1), (3, -1), (4, -1)], -4)?,
-    ];
-    Problem::new(heap, 5, &rows)
+    let rows = vec![in heap;
+        AllDifferent::row(heap, &[0, 1, 2, 3, 4])?,
+        Linear::row(heap, -4, &[(0, 1), (3, -1), (4, -1)])?,
+    ]?;
+    Problem::new(5, rows)
 }
 
-// The opening sets {1, 2, 3}, {1, 2, 3, 4}, {2, 3, 4, 5}, {1, 2, 3, 4, 5}, {1, 2, 3, 4, 5}, two of the voices fixed to values, and then narrowed.
+// The opening sets {1, 2, 3}, {1, 2, 3, 4}, {2, 3, 4, 5}, {1, 2, 3, 4, 5}, {1, 2, 3, 4, 5}, two of the voices fixed
+// to values, and then narrowed.
 fn narrowed_with(
     heap: Global,
     problem: &Problem,
@@ -33,9 +36,10 @@ fn narrowed_with(
     problem.narrowed(heap, &sets)
 }
 
-// With a and b as 1 2 or 2 1 the others keep {3, 4, 5} each, and a + 4 is at most 6 and d + e at least 6, so that the sum is settled; the values are
-// {1, 2}. With d and e as 3 4 or 4 3 a and b keep {1, 2} and c keeps {2, 5}; a + 4 is at most 6 and d + e is 7, so that the sum is settled; the
-// values are {3, 4}. Each time both orders leave the same key.
+// With a and b as 1 2 or 2 1 the others keep {3, 4, 5} each, and a + 4 is at most 6 and d + e at least 6, so that the
+// sum is settled; the values are {1, 2}. With d and e as 3 4 or 4 3 a and b keep {1, 2} and c keeps {2, 5}; a + 4 is
+// at most 6 and d + e is 7, so that the sum is settled; the values are {3, 4}. Each time both orders leave the same
+// key.
 pub(crate) fn swaps_leave_one_key(heap: Global) -> anyhow::Result<Example> {
     let problem = problem(heap)?;
     let late = set(&[3, 4, 5]);
@@ -59,8 +63,9 @@ pub(crate) fn swaps_leave_one_key(heap: Global) -> anyhow::Result<Example> {
     ))
 }
 
-// The voices d and e can be exchanged everywhere. With a 2 and d 3 the others keep b {1, 4}, c {4, 5} and e {4, 5}: 1 goes from e since 2 + 4 <= 3 +
-// e. With a 2 and e 3 it is the same with d for e. Whoever knows of the exchange may pass over the second; keys do not, since other voices are fixed.
+// The voices d and e can be exchanged everywhere. With a 2 and d 3 the others keep b {1, 4}, c {4, 5} and e {4, 5}: 1
+// goes from e since 2 + 4 <= 3 + e. With a 2 and e 3 it is the same with d for e. Whoever knows of the exchange may
+// pass over the second; keys do not, since other voices are fixed.
 pub(crate) fn exchanged_voices_differ(heap: Global) -> anyhow::Result<Example> {
     let problem = problem(heap)?;
     let first = narrowed_with(heap, &problem, &[(0, 2), (3, 3)])?;
