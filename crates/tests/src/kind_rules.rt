@@ -1,21 +1,18 @@
 // What the kinds accept at the edges of their rules, and turns that a short rule gets wrong.
 use kinds::all_different::AllDifferent;
-use kinds::clause::Clause;
+use kinds::clause::{Clause, Literal};
 use kinds::element::Element;
 use kinds::linear::Linear;
 use rows::fault::Fault;
 use rows::kind::Kind;
 use rows::member::Member;
-use rows::row::Row;
-use std::alloc::{AllocError, Global};
+use rows::row::{Row, RowError};
+use std::alloc::Global;
 use std::test::Fail;
 
-// A row, which is what a kind is given. (A table is given bytes, which harbour writes.)
-fn row(heap: Global, letter: u8, body: &[u8], members: &[(u16, i16)]) -> Result<Row, AllocError> {
-    let mut row = Row::new(heap, letter)?;
-    for b in body {
-        let _ = row.push_byte(*b);
-    }
+// A row of any members. The kinds' own constructors make none whose arguments are of no use to the kind.
+fn row(heap: Global, letter: u8, rest: &[u8], members: &[(u16, i16)]) -> Result<Row, RowError> {
+    let mut row = Row::with_count(heap, letter, members.len(), rest)?;
     for (voice, argument) in members {
         let _ = row.push_member(Member {
             voice: *voice,
@@ -25,14 +22,13 @@ fn row(heap: Global, letter: u8, body: &[u8], members: &[(u16, i16)]) -> Result<
     Ok(row)
 }
 
-// The refusal's number, of a row that is declined.
+// The number of the refusal, where a row is declined.
 fn number(verdict: Result<(), Fault>) -> Option<u8> {
     verdict.err().map(|fault| fault.number())
 }
 
-fn linear_number(heap: Global, bound: i32, coefficient: i16) -> Result<Option<u8>, AllocError> {
-    let [a, b, c, d] = bound.to_le_bytes();
-    let row = row(heap, b'L', &[1, a, b, c, d], &[(0, coefficient)])?;
+fn linear_number(heap: Global, bound: i32, coefficient: i16) -> Result<Option<u8>, RowError> {
+    let row = Linear::row(heap, bound, &[(0, coefficient)])?;
     Ok(number(Linear::accept(&row, 1)))
 }
 
@@ -55,8 +51,8 @@ fn linear_ranges(rt: HostRuntime) -> Result<(), Fail> {
     Ok(())
 }
 
-fn literal_number(heap: Global, argument: i16) -> Result<Option<u8>, AllocError> {
-    let row = row(heap, b'C', &[2], &[(0, 5), (0, argument)])?;
+fn literal_number(heap: Global, argument: i16) -> Result<Option<u8>, RowError> {
+    let row = row(heap, b'C', &[], &[(0, 5), (0, argument)])?;
     Ok(number(Clause::accept(&row, 1)))
 }
 
@@ -80,21 +76,17 @@ fn literals(rt: HostRuntime) -> Result<(), Fail> {
 #[test]
 fn repeated_voices(rt: HostRuntime) -> Result<(), Fail> {
     let heap = rt.alloc();
-    let twice = row(heap, b'A', &[2], &[(0, 0), (0, 0)])?;
+    let twice = AllDifferent::row(heap, &[0, 0])?;
     assert_eq!(rt; number(AllDifferent::accept(&twice, 1)), Some(9));
     assert_eq!(rt; number(AllDifferent::accept(&twice, 0)), Some(8));
     // voice 0 twice, 1 and -2, bound -4: 0 and 1 leave by the first pair, and 3 by no member
-    let sums = row(
-        heap,
-        b'L',
-        &[3, 0xFC, 0xFF, 0xFF, 0xFF],
-        &[(0, 1), (0, -2), (1, 1)],
-    )?;
+    let sums = Linear::row(heap, -4, &[(0, 1), (0, -2), (1, 1)])?;
     let mut sets = [0b1111u64, 0b11];
     assert!(rt; Linear::turn(&sums, &mut sets));
     assert_eq!(rt; sets, [0b0100, 0b11]);
     // the same literal twice is two literals, so nothing happens
-    let doubled = row(heap, b'C', &[2], &[(0, 1), (0, 1)])?;
+    let literal = Literal::Is { voice: 0, value: 1 };
+    let doubled = Clause::row(heap, &[literal, literal])?;
     let mut open = [0b110u64];
     assert!(rt; !Clause::turn(&doubled, &mut open));
     assert_eq!(rt; open, [0b110]);
@@ -105,15 +97,15 @@ fn repeated_voices(rt: HostRuntime) -> Result<(), Fail> {
 fn entries(rt: HostRuntime) -> Result<(), Fail> {
     let heap = rt.alloc();
     // index and result are one voice: 0 and 2 are the places that hold their own number
-    let own = row(heap, b'E', &[3, 0, 0], &[(0, 0), (0, 2), (0, 2)])?;
+    let own = Element::row(heap, 0, 0, &[0, 2, 2])?;
     assert_eq!(rt; number(Element::accept(&own, 1)), None);
     let mut sets = [0b1111u64];
     assert!(rt; Element::turn(&own, &mut sets));
     assert_eq!(rt; sets, [0b101]);
-    let named = row(heap, b'E', &[1, 0, 0], &[(1, 4)])?;
+    let named = row(heap, b'E', &[0, 0], &[(1, 4)])?;
     assert_eq!(rt; number(Element::accept(&named, 2)), Some(9));
     assert_eq!(rt; number(Element::accept(&named, 0)), Some(8));
-    let large = row(heap, b'E', &[1, 0, 0], &[(0, 64)])?;
+    let large = Element::row(heap, 0, 0, &[64])?;
     assert_eq!(rt; number(Element::accept(&large, 1)), Some(9));
     Ok(())
 }

@@ -1,22 +1,24 @@
-// Small searches through the table's calls: a row over some voices, of the kind A or of the loose kind, solved with each budget in turn.
+// Small searches through the table's calls: one row over some voices, of the kind A or of the loose kind, solved with
+// each budget in turn.
 use kinds::all_different::AllDifferent;
-use table::outcome::Outcome;
 use loose::Loose;
-use table::refusal::Refusal;
-use table::Table;
 use rows::bank::{Alone, Bank};
+use rows::row::RowError;
 use sets::ValueSet;
+use std::alloc::Global;
 use std::test::Fail;
 use stores::bare::Bare;
 use stores::shelf::Shelf;
 use stores::store::Store;
+use table::Table;
+use table::outcome::Outcome;
+use table::refusal::Refusal;
 
-// The bytes of A over the first three and the first five voices.
-static THREE: [u8; 14] = [b'A', 3, b'M', 0, 0, 0, b'M', 1, 0, 0, b'M', 2, 0, 0];
-
-static FIVE: [u8; 22] = [
-    b'A', 5, b'M', 0, 0, 0, b'M', 1, 0, 0, b'M', 2, 0, 0, b'M', 3, 0, 0, b'M', 4, 0, 0,
-];
+// The bytes of the row "these voices differ".
+fn all_different(heap: Global, voices: &[u8]) -> Result<Vec<u8>, RowError> {
+    let row = AllDifferent::row(heap, voices)?;
+    Ok(row.to_bytes(heap)?)
+}
 
 // A row of the loose kind, which holds for every placing.
 static ANY: [u8; 6] = [b'T', 1, b'M', 0, 0, 0];
@@ -24,7 +26,7 @@ static ANY: [u8; 6] = [b'T', 1, b'M', 0, 0, 0];
 // A bank of the kind A.
 type OneKind = Alone<AllDifferent>;
 
-// What a search has come to: the last answer of Solve, and the counts.
+// The last answer of Solve, and the nodes opened and exhausted.
 type Searched = (Result<Outcome, Refusal>, u64, u64);
 
 // The search over a new table with these opening sets and this row, solved with each budget in turn.
@@ -47,7 +49,7 @@ fn solved<B: Bank, S: Store + Drop>(
     Ok((answer, table.opened(), table.exhausted()))
 }
 
-// Budgets, and what the search over three voices with the values 1 and 2 comes to.
+// Budgets, and how the search over three voices with the values 1 and 2 ends.
 static BUDGETS: [(&[u64], Searched); 4] = [
     (&[9], (Ok(Outcome::None), 3, 1)),
     (&[2], (Ok(Outcome::Stopped), 2, 0)),
@@ -57,9 +59,10 @@ static BUDGETS: [(&[u64], Searched); 4] = [
 
 #[test]
 fn three_voices(rt: HostRuntime) -> Result<(), Fail> {
+    let row = all_different(rt.alloc(), &[0, 1, 2])?;
     for (budgets, expected) in &BUDGETS {
         assert_eq!(rt;
-            solved::<OneKind, Bare>(&rt, Bare, &[6, 6, 6], &THREE, budgets)?,
+            solved::<OneKind, Bare>(&rt, Bare, &[6, 6, 6], &row, budgets)?,
             *expected
         );
     }
@@ -68,14 +71,15 @@ fn three_voices(rt: HostRuntime) -> Result<(), Fail> {
 
 #[test]
 fn five_voices(rt: HostRuntime) -> Result<(), Fail> {
+    let row = all_different(rt.alloc(), &[0, 1, 2, 3, 4])?;
     let opening = [6, 6, 24, 24, 24];
     let mut words = [0u64; 64];
     assert_eq!(rt;
-        solved::<OneKind, Shelf>(&rt, Shelf::new(&mut words), &opening, &FIVE, &[9])?,
+        solved::<OneKind, Shelf>(&rt, Shelf::new(&mut words), &opening, &row, &[9])?,
         (Ok(Outcome::None), 5, 2)
     );
     assert_eq!(rt;
-        solved::<OneKind, Bare>(&rt, Bare, &opening, &FIVE, &[9])?,
+        solved::<OneKind, Bare>(&rt, Bare, &opening, &row, &[9])?,
         (Ok(Outcome::None), 7, 3)
     );
     Ok(())
@@ -83,8 +87,9 @@ fn five_voices(rt: HostRuntime) -> Result<(), Fail> {
 
 #[test]
 fn no_voices(rt: HostRuntime) -> Result<(), Fail> {
+    let row = all_different(rt.alloc(), &[0, 1, 2])?;
     assert_eq!(rt;
-        solved::<OneKind, Bare>(&rt, Bare, &[], &THREE, &[1])?,
+        solved::<OneKind, Bare>(&rt, Bare, &[], &row, &[1])?,
         (Ok(Outcome::Found), 1, 0)
     );
     Ok(())

@@ -1,15 +1,18 @@
-// Malformed sheets with the number, the place and the layer of their refusal, sheets at the limits of a table, and the largest sheet.
-use kinds::FourKinds;
-use table::Table;
+// Malformed sheets with the number, the place and the layer of their refusal, sheets at the limits of a table, the
+// largest sheet, and reports of sheets.
 use job::plan;
+use kinds::FourKinds;
+use kinds::clause::{Clause, Literal};
+use rows::row::RowError;
 use sets::ValueSet;
 use sheets::refusal::Layer;
 use sheets::load::load;
 use sheets::save::save;
-use std::alloc::AllocError;
+use std::alloc::{AllocError, Global};
 use std::test::Fail;
 use stores::bare::Bare;
 use stores::shelf::Shelf;
+use table::Table;
 
 // A refusal: its number, its place and its layer.
 type Refused = (u8, usize, Layer);
@@ -71,7 +74,7 @@ static MALFORMED: [(&[u8], Refused); 28] = [
     (b"V\0\0\0\0\0\0\0\0", (10, 0, Layer::Table)),
 ];
 
-// What a new table says to the sheet.
+// The refusal of the sheet by a new table, if it is refused.
 fn refused(rt: &HostRuntime, sheet: &[u8]) -> Result<Option<Refused>, AllocError> {
     let mut table: Table<FourKinds, Bare> = Table::make(rt.alloc(), Bare)?;
     Ok(match load(&mut table, sheet) {
@@ -89,18 +92,23 @@ fn push_voices(sheet: &mut Vec<u8>, count: u32, set: ValueSet) -> Result<(), All
     Ok(())
 }
 
-// So many clauses, each with so many literals "voice 0 has the value 0".
-fn push_clauses(sheet: &mut Vec<u8>, count: u32, literals: u8) -> Result<(), AllocError> {
-    for _ in 0..count {
-        sheet.extend_from_slice(&[b'C', literals])?;
-        push_literals(sheet, literals)?;
-    }
-    Ok(())
+// The bytes of a clause of so many literals "voice 0 has the value 0".
+fn clause(heap: Global, literals: usize) -> Result<Vec<u8>, RowError> {
+    let literals = vec![in heap; Literal::Is { voice: 0, value: 0 }; literals]?;
+    let row = Clause::row(heap, &literals)?;
+    Ok(row.to_bytes(heap)?)
 }
 
-fn push_literals(sheet: &mut Vec<u8>, count: u8) -> Result<(), AllocError> {
+// So many such clauses.
+fn push_clauses(
+    heap: Global,
+    sheet: &mut Vec<u8>,
+    count: u32,
+    literals: usize,
+) -> Result<(), RowError> {
+    let bytes = clause(heap, literals)?;
     for _ in 0..count {
-        sheet.extend_from_slice(b"M\0\0\0")?;
+        sheet.extend_from_slice(&bytes)?;
     }
     Ok(())
 }
@@ -110,12 +118,12 @@ fn sheet(
     rt: &HostRuntime,
     voices: u32,
     clauses: u32,
-    literals: u8,
+    literals: usize,
     end: &[u8],
-) -> Result<Vec<u8>, AllocError> {
+) -> Result<Vec<u8>, RowError> {
     let mut sheet = Vec::new(rt.alloc());
     push_voices(&mut sheet, voices, 15)?;
-    push_clauses(&mut sheet, clauses, literals)?;
+    push_clauses(rt.alloc(), &mut sheet, clauses, literals)?;
     sheet.extend_from_slice(end)?;
     Ok(sheet)
 }
@@ -128,9 +136,9 @@ fn malformed(rt: HostRuntime) -> Result<(), Fail> {
     Ok(())
 }
 
-// How many voices and clauses of how many literals, what follows them, and what is said to such a sheet: 80 voices and 120 rows, and one more of each, the one more with another
-// refusal too; clauses of 32 literals and of 33.
-static AT_LIMITS: [(u32, u32, u8, &[u8], Option<Refused>); 7] = [
+// How many voices and clauses of how many literals, the bytes after them, and the refusal of such a sheet: 80 voices
+// and 120 rows, and one more of each, the one more with another refusal too; a clause of 32 literals.
+static AT_LIMITS: [(u32, u32, usize, &[u8], Option<Refused>); 6] = [
     (80, 120, 1, b"Z", None),
     (81, 0, 1, b"Z", Some((11, 720, Layer::Table))),
     (
@@ -143,7 +151,6 @@ static AT_LIMITS: [(u32, u32, u8, &[u8], Option<Refused>); 7] = [
     (1, 121, 1, b"Z", Some((12, 729, Layer::Table))),
     (1, 120, 1, b"A\x01M\0\x01\0Z", Some((9, 729, Layer::Row))),
     (1, 1, 32, b"Z", None),
-    (1, 1, 33, b"Z", Some((5, 9, Layer::Row))),
 ];
 
 #[test]
@@ -152,18 +159,24 @@ fn at_limits(rt: HostRuntime) -> Result<(), Fail> {
         let bytes = sheet(&rt, *voices, *clauses, *literals, end)?;
         assert_eq!(rt; refused(&rt, &bytes)?, *expected);
     }
+    // a clause of 33 literals: one more, and the count, which is the second byte of the row at 9
+    let mut bytes = sheet(&rt, 1, 1, 32, b"M\0\0\0Z")?;
+    if let Some(count) = bytes.get_mut(10) {
+        *count = 33;
+    }
+    assert_eq!(rt; refused(&rt, &bytes)?, Some((5, 9, Layer::Row)));
     Ok(())
 }
 
 // The largest sheet: 80 voices, 120 rows and 8,192 bytes of rows (68 of 70, 52 of 66).
-fn largest_sheet(rt: &HostRuntime) -> Result<Vec<u8>, AllocError> {
+fn largest_sheet(rt: &HostRuntime) -> Result<Vec<u8>, RowError> {
     let mut bytes = sheet(rt, 80, 68, 17, b"")?;
-    push_clauses(&mut bytes, 52, 16)?;
+    push_clauses(rt.alloc(), &mut bytes, 52, 16)?;
     bytes.push(b'Z')?;
     Ok(bytes)
 }
 
-// It loads, and is saved as it was; what lies behind stays.
+// It loads, and is saved as it was; the bytes beyond it stay as they are.
 #[test]
 fn largest(rt: HostRuntime) -> Result<(), Fail> {
     let mut bytes = largest_sheet(&rt)?;
@@ -177,14 +190,14 @@ fn largest(rt: HostRuntime) -> Result<(), Fail> {
     Ok(())
 }
 
-// What is printed of the sheet, over a shelf of 4,096 words.
+// The report of the sheet, over a shelf of 4,096 words.
 fn planned(rt: &HostRuntime, sheet: &[u8]) -> Result<Vec<u8>, AllocError> {
     let mut words = vec![in rt.alloc(); 0u64; 4_096]?;
     plan::<FourKinds, Shelf>(rt.alloc(), Shelf::new(&mut words), sheet)
 }
 
-// The whole job on the largest sheet. Several literals stand in each clause (the same one counts as often as it is there), so that nothing is narrowed: the root is opened, and
-// then a node for each voice with its least value; none fails.
+// The whole job on the largest sheet. Each clause has several literals (the same one counts as often as it is there),
+// so that nothing is narrowed: the root is opened, and then a node for each voice with its least value; none fails.
 #[test]
 fn largest_planned(rt: HostRuntime) -> Result<(), Fail> {
     let bytes = largest_sheet(&rt)?;
@@ -197,7 +210,8 @@ fn largest_planned(rt: HostRuntime) -> Result<(), Fail> {
     Ok(())
 }
 
-// Two voices with the places 1 and 3, and a row that says that they differ; and what is printed where its second argument is not 0.
+// Two voices with the places 1 and 3, and a row that says that they differ: the report, and the report where the second
+// argument of the row is not 0.
 static PRINTED: [(&[u8], &str); 2] = [
     (
         b"V\x0a\0\0\0\0\0\0\0V\x0a\0\0\0\0\0\0\0A\x02M\0\0\0M\x01\0\0Z",
@@ -217,7 +231,8 @@ fn printed(rt: HostRuntime) -> Result<(), Fail> {
     Ok(())
 }
 
-// More bytes than are read, all of them voices, of which 80 fit; and 120 rows of 32 literals, of which 63 fit (8,190 bytes).
+// More bytes than are read, all of them voices, of which 80 fit; and 120 rows of 32 literals, of which 63 fit (8,190
+// bytes).
 #[test]
 fn more_than_fits(rt: HostRuntime) -> Result<(), Fail> {
     let voices = sheet(&rt, 2_300, 0, 1, b"Z")?;
@@ -227,11 +242,11 @@ fn more_than_fits(rt: HostRuntime) -> Result<(), Fail> {
     Ok(())
 }
 
-// A byte more of rows than there may be, and a declined sheet leaves nothing.
+// A byte more of rows than there may be; a sheet that is declined leaves an empty table.
 #[test]
 fn bytes_at_their_limit(rt: HostRuntime) -> Result<(), Fail> {
     let mut bytes = sheet(&rt, 80, 63, 32, b"")?;
-    push_clauses(&mut bytes, 1, 1)?;
+    push_clauses(rt.alloc(), &mut bytes, 1, 1)?;
     bytes.push(b'Z')?;
     // 63 rows of 130 bytes are 8,190, and 6 more pass 8,192
     assert_eq!(rt; refused(&rt, &bytes)?, Some((12, 8_910, Layer::Table)));

@@ -39,7 +39,7 @@ fn fits(rt: HostRuntime) {
     assert!(rt; shelf.keep(&[1, 2]) == Stored::Lost && shelf.keep(&[1]) == Stored::Kept);
 }
 
-// A key of 320 words, and lent words past the first 65,536.
+// A key of 320 words, and borrowed words past the first 65,536.
 #[test]
 fn large(rt: HostRuntime) -> Result<(), Fail> {
     let key = [3u64; 320];
