@@ -1,4 +1,5 @@
-// Plays the history of calls that standard input has, one call a line, over the bare store beside a large shelf, and beside a small one, and prints every reply.
+// Plays the history of calls that standard input has, one call a line, over the bare store beside a large shelf, and
+// beside a small one, and prints every reply.
 #![tactic(auto)]
 
 ghost use Rattle.std.specs.Prelude.{IfOk, []};
@@ -9,11 +10,11 @@ ghost use Rattle.stores.specs.ShelfLaws.{shelf};
 ghost use Rattle.histories.specs.CallViews.{calls_of, answers_of, progresses_of};
 ghost use Rattle.histories.specs.Replies.{Played, Agreed};
 
-use kinds::FourKinds;
-use parse::parse_calls;
 use histories::call::Call;
 use histories::play::play_both;
 use histories::reply::Reply;
+use kinds::FourKinds;
+use parse::parse_calls;
 use std::alloc::{AllocError, Global};
 use std::io;
 use stores::bare::Bare;
@@ -21,7 +22,7 @@ use stores::shelf::Shelf;
 
 mod parse;
 
-// How many words the two shelves have: more than the history needs, and so few that keys are lost.
+// How many words the two shelves have: more than the history needs, and so few that some keys are lost.
 const LARGE: usize = 4096;
 
 const SMALL: usize = 44;
@@ -32,9 +33,15 @@ fn play_beside_bare(
     count: usize,
     calls: &[Call],
 ) -> Result<(Vec<Reply>, Vec<Reply>), AllocError>
-    ensures over_bare { IfOk result (λ both. Played bare four_kinds tt (calls_of calls.now) (answers_of both.0.items) (progresses_of both.0.items)) }
-    ensures over_shelf { IfOk result (λ both. Played shelf four_kinds (record { held = []; room = room_of count }) (calls_of calls.now) (answers_of both.1.items) (progresses_of both.1.items)) }
-    ensures agreed { IfOk result (λ both. Agreed four_kinds (calls_of calls.now) (answers_of both.0.items) four_kinds (calls_of calls.now) (answers_of both.1.items)) }
+    ensures over_bare { IfOk result (λ both.
+        Played bare four_kinds tt (calls_of calls.now) (answers_of both.0.items)
+        (progresses_of both.0.items)) }
+    ensures over_shelf { IfOk result (λ both.
+        Played shelf four_kinds (record { held = []; room = room_of count }) (calls_of calls.now)
+        (answers_of both.1.items) (progresses_of both.1.items)) }
+    ensures agreed { IfOk result (λ both.
+        Agreed four_kinds (calls_of calls.now) (answers_of both.0.items) four_kinds
+        (calls_of calls.now) (answers_of both.1.items)) }
 {
     let mut words = vec![in heap; 0u64; count]?;
     play_both::<FourKinds, Bare, FourKinds, Shelf>(heap, Bare, calls, Shelf::new(&mut words), calls)
