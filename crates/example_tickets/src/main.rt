@@ -2,14 +2,14 @@
 #![tactic(auto)]
 
 use kinds::all_different::AllDifferent;
-use tickets::refusal::TicketRefusal;
-use tickets::ticket::Ticket;
-use table::outcome::Outcome;
-use table::Table;
 use rows::bank::Alone;
 use sets::ValueSet;
 use std::io;
 use stores::bare::Bare;
+use table::Table;
+use table::outcome::Outcome;
+use tickets::refusal::TicketRefusal;
+use tickets::ticket::Ticket;
 
 // A bank of the kind A alone.
 type OneKind = Alone<AllDifferent>;
