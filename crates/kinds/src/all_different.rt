@@ -9,7 +9,7 @@ ghost use Rattle.rows.specs.Views.{row_of};
 ghost use Rattle.kinds.specs.Differing.{spares, used, all_different, all_different_row};
 ghost use Rattle.kinds.specs.DifferingLaws.{all_different_lawful};
 
-use rows::fault::Fault;
+use rows::refusal::KindRefusal;
 use rows::kind::Kind;
 use rows::member::Member;
 use rows::narrowing::{are_declared, is_shaped, judge, keep_only, set_of};
@@ -120,7 +120,7 @@ impl Kind for AllDifferent {
     ghost lawful = { all_different_lawful };
 
     // A row is accepted where it has the shape, its voices are declared, its arguments are 0 and no voice repeats.
-    fn accept(row: &Row, voices: usize) -> Result<(), Fault> {
+    fn accept(row: &Row, voices: usize) -> Result<(), KindRefusal> {
         let members = row.members();
         let shape = is_shaped(row, Self::LETTER, Self::BODY_LENGTH);
         judge(

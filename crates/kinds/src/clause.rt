@@ -11,7 +11,7 @@ ghost use Rattle.rows.specs.Shared.{cuts};
 ghost use Rattle.kinds.specs.Literals.{says, refuted, certain, stands, in_range, has_value, literal_member, clause_row, clause};
 ghost use Rattle.kinds.specs.LiteralsLaws.{clause_lawful};
 
-use rows::fault::Fault;
+use rows::refusal::KindRefusal;
 use rows::kind::Kind;
 use rows::member::Member;
 use rows::narrowing::{are_declared, is_shaped, judge, keep_only, set_of};
@@ -174,7 +174,7 @@ impl Kind for Clause {
 
     ghost lawful = { clause_lawful };
 
-    fn accept(row: &Row, voices: usize) -> Result<(), Fault> {
+    fn accept(row: &Row, voices: usize) -> Result<(), KindRefusal> {
         let shape = is_shaped(row, Clause::LETTER, Clause::BODY_LENGTH);
         let declared = are_declared(row.members(), voices);
         let rule = are_in_range(row.members());

@@ -9,7 +9,7 @@ ghost use Rattle.rows.specs.Views.{row_of};
 ghost use Rattle.kinds.specs.Entries.{index, result_voice, entry, reached, is_entry, element, element_row};
 ghost use Rattle.kinds.specs.EntriesLaws.{element_lawful};
 
-use rows::fault::Fault;
+use rows::refusal::KindRefusal;
 use rows::kind::Kind;
 use rows::member::Member;
 use rows::narrowing::{is_shaped, judge, keep_only, set_of};
@@ -132,7 +132,7 @@ impl Kind for Element {
 
     ghost lawful = { element_lawful };
 
-    fn accept(row: &Row, voices: usize) -> Result<(), Fault> {
+    fn accept(row: &Row, voices: usize) -> Result<(), KindRefusal> {
         let shape = is_shaped(row, Element::LETTER, Element::BODY_LENGTH);
         let declared = usize::from(index_voice(row)) < voices
             && usize::from(result_voice(row)) < voices;

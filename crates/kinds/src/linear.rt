@@ -9,7 +9,7 @@ ghost use Rattle.rows.specs.Views.{row_of};
 ghost use Rattle.kinds.specs.Sums.{bound as bound_of, low, high, placed, term, total, linear_rule, linear, linear_row, Near};
 ghost use Rattle.kinds.specs.SumsLaws.{linear_lawful};
 
-use rows::fault::Fault;
+use rows::refusal::KindRefusal;
 use rows::kind::Kind;
 use rows::member::Member;
 use rows::narrowing::{are_declared, is_shaped, judge, keep_only, set_of};
@@ -209,7 +209,7 @@ impl Kind for Linear {
 
     ghost lawful = { linear_lawful };
 
-    fn accept(row: &Row, voices: usize) -> Result<(), Fault> {
+    fn accept(row: &Row, voices: usize) -> Result<(), KindRefusal> {
         let shaped = is_shaped(row, Self::LETTER, Self::BODY_LENGTH);
         judge(
             shaped,

@@ -2,9 +2,9 @@
 use Rattle.std.proofs.Common.{◌≡◌, ℕ, zero, suc, ◌+◌, ◌-◌, ◌*◌, ◌<◌, ◌≤◌, Bool, true, false, cond, ◌&&◌, ltb, leb, List, [], ◌∷◌, ◌++◌, length, get_or, take, drop, is_ok, Ok, Err, Result, sym, refl, ap, ◌∙◌, append_assoc, arith, w16, to_z}
 use Rattle.std.proofs.lemmas.Bool.{eq-eqb, ltb-true, ltb-false, eqb-true, leb-true, and_parts, both_ways, cond_both}
 use Rattle.std.proofs.lemmas.List.{take_rest, take_all, take_at, append-nil, length_push, length-drop, length-take, drop_more, drop_all}
-use Rattle.rows.specs.declared.fault.RowFault.{RowFault}
-use Rattle.rows.specs.declared.fault.RowFault.TheVariants.{UnknownLetter, BadCount, WrongLength, UnmarkedMember, Declined}
-use Rattle.rows.specs.declared.fault.Fault.{Fault}
+use Rattle.rows.specs.declared.refusal.RowRefusal.{RowRefusal}
+use Rattle.rows.specs.declared.refusal.RowRefusal.TheVariants.{UnknownLetter, BadCount, WrongLength, UnmarkedMember, ByKind}
+use Rattle.rows.specs.declared.refusal.KindRefusal.{KindRefusal}
 use Rattle.rows.specs.declared.member.Member.{Member}
 use Rattle.rows.specs.Rows.{RowData, Meaning}
 use Rattle.rows.specs.Laws.{Laws}
@@ -125,12 +125,12 @@ row_members_end r bs few h =
 -- ---- the tests of the layout
 
 -- a test that did not end in its fault
-pub checked_passed : {A : Type 0} (b : Bool) (f : RowFault) (next : Result A RowFault) (x : A) → Ok x ≡ checked b f next → (b ≡ true) × (Ok x ≡ next)
+pub checked_passed : {A : Type 0} (b : Bool) (f : RowRefusal) (next : Result A RowRefusal) (x : A) → Ok x ≡ checked b f next → (b ≡ true) × (Ok x ≡ next)
 checked_passed true f next x e = (refl, e)
 checked_passed false f next x e = (cc, cc)
 
 -- after the first three tests the fourth decides
-pub layout_marks : {A : Type 0} (m : Meaning) (bs : List ℕ) (next : Result A RowFault) (b : Bool)
+pub layout_marks : {A : Type 0} (m : Meaning) (bs : List ℕ) (next : Result A RowRefusal) (b : Bool)
     → lettered m bs ≡ true → counted bs ≡ true → right_length m bs ≡ true → marked (drop (head_length m bs) bs) ≡ b → layout m bs next ≡ checked b UnmarkedMember next
 layout_marks m bs next b x y z w =
     ap (λ t. checked t UnknownLetter (checked (counted bs) BadCount (checked (right_length m bs) WrongLength (checked (marked (drop (head_length m bs) bs)) UnmarkedMember next)))) x
@@ -139,7 +139,7 @@ layout_marks m bs next b x y z w =
     ∙ ap (λ t. checked t UnmarkedMember next) w
 
 -- the same, by what the code has read: the body length x and the count n
-pub start_marks : {A : Type 0} (m : Meaning) (bs : List ℕ) (next : Result A RowFault) (x n : ℕ) (b : Bool)
+pub start_marks : {A : Type 0} (m : Meaning) (bs : List ℕ) (next : Result A RowRefusal) (x n : ℕ) (b : Bool)
     → Ok x ≡ checked (lettered m bs) UnknownLetter (Ok (m.body_length (letter_byte bs))) → Ok n ≡ checked (counted bs) BadCount (Ok (count_byte bs))
     → length bs ≡ 1 + x + 4 * n → b ≡ marked (take (length bs - (1 + x)) (drop (1 + x) bs))
     → (layout m bs next ≡ checked b UnmarkedMember next) × (1 + x ≡ head_length m bs)
@@ -165,7 +165,7 @@ layout_passed m bs x y e =
     (record { letters = a.0; counts = b.0; long = c.0; marks = d.0 }, cc)
 
 -- the first fault is the same whatever comes next
-without_value : Result ℕ RowFault → Result Unit RowFault
+without_value : Result ℕ RowRefusal → Result Unit RowRefusal
 without_value (Ok x) = Ok tt
 without_value (Err e) = Err e
 
@@ -179,20 +179,20 @@ faults_same true true false d y = refl
 faults_same true true true false y = refl
 faults_same true true true true y = refl
 
-pub layout_failed : (m : Meaning) (bs : List ℕ) (y : ℕ) (e : RowFault) → Err e ≡ layout m bs (Ok y) → layout_fault m bs ≡ Err e
+pub layout_failed : (m : Meaning) (bs : List ℕ) (y : ℕ) (e : RowRefusal) → Err e ≡ layout m bs (Ok y) → layout_fault m bs ≡ Err e
 unfolding without_value
 layout_failed m bs y e h =
     sym (ap without_value h ∙ faults_same (lettered m bs) (counted bs) (right_length m bs) (marked (drop (head_length m bs) bs)) y)
 
 -- what is left of a row that has a fault
-pub row_unread : (m : Meaning) (bs : List ℕ) (y : ℕ) (e : RowFault) (before : RowData) → Err e ≡ layout m bs (Ok y) → before ≡ row_after m bs before
-row_unread m bs y e before h = sym (ap (λ (r : Result Unit RowFault). cond (is_ok r) (decode m bs) before) (layout_failed m bs y e h))
+pub row_unread : (m : Meaning) (bs : List ℕ) (y : ℕ) (e : RowRefusal) (before : RowData) → Err e ≡ layout m bs (Ok y) → before ≡ row_after m bs before
+row_unread m bs y e before h = sym (ap (λ (r : Result Unit RowRefusal). cond (is_ok r) (decode m bs) before) (layout_failed m bs y e h))
 
 -- what comes after a fault, and after none
-abbrev faultless : Result Unit RowFault
+abbrev faultless : Result Unit RowRefusal
 faultless = Ok tt
 
-after_fault : (a b c d : Bool) (next : Result Unit RowFault) (e : RowFault)
+after_fault : (a b c d : Bool) (next : Result Unit RowRefusal) (e : RowRefusal)
     → Err e ≡ checked a UnknownLetter (checked b BadCount (checked c WrongLength (checked d UnmarkedMember faultless)))
     → checked a UnknownLetter (checked b BadCount (checked c WrongLength (checked d UnmarkedMember next))) ≡ Err e
 after_fault false b c d next e h = sym h
@@ -201,7 +201,7 @@ after_fault true true false d next e h = sym h
 after_fault true true true false next e h = sym h
 after_fault true true true true next e h = absurd (both_ways false refl (ap is_ok h))
 
-after_none : (a b c d : Bool) (next : Result Unit RowFault)
+after_none : (a b c d : Bool) (next : Result Unit RowRefusal)
     → faultless ≡ checked a UnknownLetter (checked b BadCount (checked c WrongLength (checked d UnmarkedMember faultless)))
     → checked a UnknownLetter (checked b BadCount (checked c WrongLength (checked d UnmarkedMember next))) ≡ next
 after_none false b c d next h = absurd (both_ways true (ap is_ok h) refl)
@@ -210,14 +210,14 @@ after_none true true false d next h = absurd (both_ways true (ap is_ok h) refl)
 after_none true true true false next h = absurd (both_ways true (ap is_ok h) refl)
 after_none true true true true next h = refl
 
-pub verdict_failed : (m : Meaning) (bs : List ℕ) (voices : ℕ) (e : RowFault) → Err e ≡ layout_fault m bs → row_verdict m bs voices ≡ Err e
+pub verdict_failed : (m : Meaning) (bs : List ℕ) (voices : ℕ) (e : RowRefusal) → Err e ≡ layout_fault m bs → row_verdict m bs voices ≡ Err e
 verdict_failed m bs voices e h =
     after_fault (lettered m bs) (counted bs) (right_length m bs) (marked (drop (head_length m bs) bs)) (of_kind (m.accepts (decode m bs) voices)) e h
 
-pub verdict_declined : (m : Meaning) (bs : List ℕ) (voices : ℕ) (f : Fault) (row before : RowData)
-    → Ok tt ≡ layout_fault m bs → row ≡ row_after m bs before → Err f ≡ m.accepts row voices → row_verdict m bs voices ≡ Err (Declined f)
+pub verdict_declined : (m : Meaning) (bs : List ℕ) (voices : ℕ) (f : KindRefusal) (row before : RowData)
+    → Ok tt ≡ layout_fault m bs → row ≡ row_after m bs before → Err f ≡ m.accepts row voices → row_verdict m bs voices ≡ Err (ByKind f)
 verdict_declined m bs voices f row before h r e =
-    let is : row ≡ decode m bs = r ∙ sym (ap (λ (x : Result Unit RowFault). cond (is_ok x) (decode m bs) before) h) in
+    let is : row ≡ decode m bs = r ∙ sym (ap (λ (x : Result Unit RowRefusal). cond (is_ok x) (decode m bs) before) h) in
     after_none (lettered m bs) (counted bs) (right_length m bs) (marked (drop (head_length m bs) bs)) (of_kind (m.accepts (decode m bs) voices)) h
     ∙ sym (ap of_kind (e ∙ ap (λ (x : RowData). m.accepts x voices) is))
 
@@ -254,4 +254,4 @@ row_read m bs start before u v w laws o s p q r =
     let body : List ℕ = take (start - 1) (drop 1 bs) in
     r ∙ ap (λ (x : RowData). with_members_in x rest) (q ∙ ap (λ (x : RowData). with_bytes x body) p)
     ∙ ap (filled bs) s ∙ row_filled m bs laws o
-    ∙ sym (ap (λ (x : Result Unit RowFault). cond (is_ok x) (decode m bs) before) (layout_right m bs o))
+    ∙ sym (ap (λ (x : Result Unit RowRefusal). cond (is_ok x) (decode m bs) before) (layout_right m bs o))

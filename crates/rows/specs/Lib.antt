@@ -4,7 +4,7 @@ pub mod SideBySide
 pub mod Traces
 pub mod Views
 pub mod Bytes
-pub mod Numbers
+pub mod Refusals
 pub mod Reading
 pub mod Written
 pub mod WrittenRows

@@ -1,7 +1,7 @@
 -- Reading a row from bytes: what is answered, and the row afterwards.
 use Rattle.std.specs.Prelude.{ℕ, Bool, cond, List, ◌++◌, take, drop, is_ok, Ok, Err, Result}
-use Rattle.rows.specs.declared.fault.RowFault.{RowFault}
-use Rattle.rows.specs.declared.fault.RowFault.TheVariants.{UnknownLetter, BadCount, WrongLength, UnmarkedMember, Declined}
+use Rattle.rows.specs.declared.refusal.RowRefusal.{RowRefusal}
+use Rattle.rows.specs.declared.refusal.RowRefusal.TheVariants.{UnknownLetter, BadCount, WrongLength, UnmarkedMember, ByKind}
 use Rattle.rows.specs.Rows.{RowData, Meaning, Verdict}
 use Rattle.rows.specs.Bytes.{head_length, lettered, counted, right_length, marked, decode, members_in}
 
@@ -10,22 +10,22 @@ abbrev pub checked : {A E : Type 0} → Bool → E → Result A E → Result A E
 checked test fault next = cond test next (Err fault)
 
 -- the first fault of the layout, and what comes next where there is none
-abbrev pub layout : {A : Type 0} → Meaning → List ℕ → Result A RowFault → Result A RowFault
+abbrev pub layout : {A : Type 0} → Meaning → List ℕ → Result A RowRefusal → Result A RowRefusal
 layout m bs next =
     checked (lettered m bs) UnknownLetter
     (checked (counted bs) BadCount (checked (right_length m bs) WrongLength (checked (marked (drop (head_length m bs) bs)) UnmarkedMember next)))
 
 -- what is wrong with the layout of the bytes, if anything is
-abbrev pub layout_fault : Meaning → List ℕ → Result Unit RowFault
+abbrev pub layout_fault : Meaning → List ℕ → Result Unit RowRefusal
 layout_fault m bs = layout m bs (Ok tt)
 
 -- a kind's answer as an answer to bytes
-abbrev pub of_kind : Verdict → Result Unit RowFault
+abbrev pub of_kind : Verdict → Result Unit RowRefusal
 of_kind (Ok x) = Ok x
-of_kind (Err fault) = Err (Declined fault)
+of_kind (Err fault) = Err (ByKind fault)
 
 -- the answer to bytes with so many voices: the first fault of their layout, then what the kind says of the row that they stand for
-abbrev pub row_verdict : Meaning → List ℕ → ℕ → Result Unit RowFault
+abbrev pub row_verdict : Meaning → List ℕ → ℕ → Result Unit RowRefusal
 row_verdict m bs voices = layout m bs (of_kind (m.accepts (decode m bs) voices))
 
 -- the row after bytes were read into it: what they stand for where their layout is right, else what it was

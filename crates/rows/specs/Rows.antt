@@ -1,6 +1,6 @@
 -- What rows say, and what a kind of rows and a bank of kinds mean.
 use Rattle.std.specs.Prelude.{ℕ, Bool, cond, ◌||◌, List, Result, ◌==◌, slice_index}
-use Rattle.rows.specs.declared.fault.Fault.{Fault}
+use Rattle.rows.specs.declared.refusal.KindRefusal.{KindRefusal}
 use Rattle.rows.specs.declared.member.Member.{Member}
 use Rattle.rows.specs.declared.trace.Trace.{Trace}
 
@@ -19,7 +19,7 @@ count r = byte r 0
 
 -- asked to accept a row, a kind answers yes or a fault
 abbrev pub Verdict : Type 0
-Verdict = Result Unit Fault
+Verdict = Result Unit KindRefusal
 
 -- What a kind of rows means: its letter, its body length, the rows that it accepts with so many voices, the placings that a row holds for, the sets
 -- after a turn (propagator), the trace.

@@ -2,7 +2,7 @@
 use Rattle.std.specs.Prelude.{ℕ, Bool, true, cond, not, ◌&&◌, List, [], ◌∷◌, length, Ok, Err, ◌==◌, nat_eq, nat_le, nat_lt, slice_index, slice_set}
 use Rattle.sets.specs.Sets.{sift}
 use Rattle.std.specs.List.{list_all, list_any}
-use Rattle.rows.specs.declared.fault.Fault.TheVariants.{Undeclared, RuleBroken}
+use Rattle.rows.specs.declared.refusal.KindRefusal.TheVariants.{Undeclared, RuleBroken}
 use Rattle.rows.specs.declared.member.Member.{Member}
 use Rattle.rows.specs.Rows.{RowData, Verdict, count}
 

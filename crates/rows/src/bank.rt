@@ -6,8 +6,8 @@ ghost use Rattle.rows.specs.Laws.{Laws, Accepted};
 ghost use Rattle.rows.specs.Views.{row_of};
 ghost use Rattle.rows.specs.SideBySide.{beside_lawful};
 
-use crate::fault::Fault;
 use crate::kind::Kind;
+use crate::refusal::KindRefusal;
 use crate::row::Row;
 use crate::trace::Trace;
 use sets::ValueSet;
@@ -22,7 +22,7 @@ pub trait Bank {
         ensures { result ≡ (if meaning.known letter then Some (meaning.body_length letter) else None) };
 
     // Whether the bank accepts the row in a table of so many voices.
-    fn accept(row: &Row, voices: usize) -> Result<(), Fault>
+    fn accept(row: &Row, voices: usize) -> Result<(), KindRefusal>
         ensures { result ≡ meaning.accepts (row_of row.now) voices };
 
     // Takes values out of the sets that no placing needs for which the row holds; and where the row is accepted and no set is empty, it says whether it took one.
@@ -52,7 +52,7 @@ impl<K: Kind> Bank for Alone<K> {
         (letter == K::LETTER).then_some(K::BODY_LENGTH)
     }
 
-    fn accept(row: &Row, voices: usize) -> Result<(), Fault> {
+    fn accept(row: &Row, voices: usize) -> Result<(), KindRefusal> {
         K::accept(row, voices)
     }
 
@@ -81,7 +81,7 @@ impl<X: Bank, Y: Bank> Bank for Beside<X, Y> {
         X::body_length(letter).or_else(|| Y::body_length(letter))
     }
 
-    fn accept(row: &Row, voices: usize) -> Result<(), Fault> {
+    fn accept(row: &Row, voices: usize) -> Result<(), KindRefusal> {
         if X::body_length(row.letter()).is_some() {
             X::accept(row, voices)
         } else {

@@ -5,7 +5,7 @@ ghost use Rattle.rows.specs.Rows.{KindMeaning, alone};
 ghost use Rattle.rows.specs.Laws.{Laws, Accepted};
 ghost use Rattle.rows.specs.Views.{row_of};
 
-use crate::fault::Fault;
+use crate::refusal::KindRefusal;
 use crate::row::Row;
 use crate::trace::Trace;
 use sets::ValueSet;
@@ -33,7 +33,7 @@ pub trait Kind {
     ghost own_length: { BODY_LENGTH ≡ meaning.body_length };
 
     // Whether a row is one of this kind, in a table of so many voices.
-    fn accept(row: &Row, voices: usize) -> Result<(), Fault>
+    fn accept(row: &Row, voices: usize) -> Result<(), KindRefusal>
         ensures { result ≡ meaning.accepts (row_of row.now) voices };
 
     // Takes values out of the sets that no placing needs for which the row holds; and where the row is accepted and no set is empty, it says whether it took one.

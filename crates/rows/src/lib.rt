@@ -3,11 +3,11 @@
 
 pub mod bank;
 pub mod bytes;
-pub mod fault;
 pub mod kind;
 pub mod member;
 pub mod narrowing;
 pub mod reading;
+pub mod refusal;
 pub mod row;
 pub mod trace;
 pub mod writer;

@@ -6,8 +6,8 @@ ghost use Rattle.std.specs.List.{list_all};
 ghost use Rattle.rows.specs.Views.{row_of};
 ghost use Rattle.rows.specs.Shared.{cut, shaped, verdict};
 
-use crate::fault::Fault;
 use crate::member::Member;
+use crate::refusal::KindRefusal;
 use crate::row::{MOST_MEMBERS, Row};
 use sets::ValueSet;
 
@@ -53,15 +53,15 @@ pub fn are_declared(members: &[Member], voices: usize) -> bool
 }
 
 // A row's verdict, by its shape, its voices and the kind's own rule: a voice that is not declared goes before a rule that is broken.
-pub fn judge(shape: bool, declared: bool, rule: bool) -> Result<(), Fault>
+pub fn judge(shape: bool, declared: bool, rule: bool) -> Result<(), KindRefusal>
     ensures { result ≡ verdict shape declared rule }
 {
     if !shape {
-        Err(Fault::RuleBroken)
+        Err(KindRefusal::RuleBroken)
     } else if !declared {
-        Err(Fault::Undeclared)
+        Err(KindRefusal::Undeclared)
     } else if !rule {
-        Err(Fault::RuleBroken)
+        Err(KindRefusal::RuleBroken)
     } else {
         Ok(())
     }

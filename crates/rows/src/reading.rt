@@ -1,34 +1,34 @@
 // Rows read from bytes.
 ghost use Rattle.std.specs.Prelude.{◌≡◌, Ok};
-ghost use Rattle.rows.specs.declared.fault.RowFault.TheVariants.{UnknownLetter, BadCount};
+ghost use Rattle.rows.specs.declared.refusal.RowRefusal.TheVariants.{UnknownLetter, BadCount};
 ghost use Rattle.rows.specs.Bytes.{letter_byte, count_byte, head_length, lettered, counted, marked};
 ghost use Rattle.rows.specs.Reading.{checked, layout, layout_fault, row_verdict, row_after, with_bytes, with_members_in};
 ghost use Rattle.rows.specs.Views.{row_of};
 
 use crate::bank::Bank;
-use crate::fault::RowFault;
 use crate::member::{MEMBER_MARK, Member};
+use crate::refusal::RowRefusal;
 use crate::row::{MOST_MEMBERS, Row};
 
 // The length of the body that the letter asks for.
-fn body_length<B: Bank>(bytes: &[u8]) -> Result<usize, RowFault>
+fn body_length<B: Bank>(bytes: &[u8]) -> Result<usize, RowRefusal>
     ensures { result ≡ checked (lettered B.Bank.meaning bytes.now) UnknownLetter (Ok (B.Bank.meaning.body_length (letter_byte bytes.now))) }
 {
     bytes
         .first()
         .and_then(|letter| B::body_length(*letter))
-        .ok_or(RowFault::UnknownLetter)
+        .ok_or(RowRefusal::UnknownLetter)
 }
 
 // The count of members.
-fn member_count(bytes: &[u8]) -> Result<usize, RowFault>
+fn member_count(bytes: &[u8]) -> Result<usize, RowRefusal>
     ensures { result ≡ checked (counted bytes.now) BadCount (Ok (count_byte bytes.now)) }
 {
     bytes
         .get(1)
         .map(|count| usize::from(*count))
         .filter(|count| (1..=MOST_MEMBERS).contains(count))
-        .ok_or(RowFault::BadCount)
+        .ok_or(RowRefusal::BadCount)
 }
 
 // Whether each member, of four bytes, has its mark.
@@ -47,16 +47,16 @@ fn are_marked(bytes: &[u8]) -> bool
 }
 
 // Where the members begin, if the bytes have the layout of a row.
-fn members_start<B: Bank>(bytes: &[u8]) -> Result<usize, RowFault>
+fn members_start<B: Bank>(bytes: &[u8]) -> Result<usize, RowRefusal>
     ensures { result ≡ layout B.Bank.meaning bytes.now (Ok (head_length B.Bank.meaning bytes.now)) }
 {
     let start = 1 + body_length::<B>(bytes)?;
     let count = member_count(bytes)?;
     if bytes.len() != start + 4 * count {
-        return Err(RowFault::WrongLength);
+        return Err(RowRefusal::WrongLength);
     }
     if !are_marked(&bytes[start..]) {
-        return Err(RowFault::UnmarkedMember);
+        return Err(RowRefusal::UnmarkedMember);
     }
     Ok(start)
 }
@@ -76,7 +76,7 @@ fn push_members(row: &mut Row, bytes: &[u8])
 }
 
 // Reads the bytes into the row, if they have the layout of one; otherwise it stays as it is.
-pub fn read_row<B: Bank>(bytes: &[u8], row: &mut Row) -> Result<(), RowFault>
+pub fn read_row<B: Bank>(bytes: &[u8], row: &mut Row) -> Result<(), RowRefusal>
     ensures value { result ≡ layout_fault B.Bank.meaning bytes.now }
     ensures after { row_of row.new ≡ row_after B.Bank.meaning bytes.now (row_of row.old) }
 {
@@ -88,7 +88,7 @@ pub fn read_row<B: Bank>(bytes: &[u8], row: &mut Row) -> Result<(), RowFault>
 }
 
 // Reads the bytes into the row, and asks the bank whether it accepts that in a table of so many voices.
-pub fn accept_bytes<B: Bank>(bytes: &[u8], voices: usize, row: &mut Row) -> Result<(), RowFault>
+pub fn accept_bytes<B: Bank>(bytes: &[u8], voices: usize, row: &mut Row) -> Result<(), RowRefusal>
     ensures value { result ≡ row_verdict B.Bank.meaning bytes.now voices }
     ensures after { row_of row.new ≡ row_after B.Bank.meaning bytes.now (row_of row.old) }
 {

@@ -1,5 +1,5 @@
 // A row as a typed value: its kind's letter, its body and its members.
-ghost use Rattle.std.specs.Prelude.{◌≡◌, ◌≤◌, [], ◌∷◌, ◌++◌, length, vec_len, vec_capacity, IfOk, if◌then◌else◌, nat_lt, slice_index};
+ghost use Rattle.std.specs.Prelude.{◌≡◌, ◌≤◌, [], ◌∷◌, ◌++◌, length, Some, vec_len, vec_capacity, IfOk, if◌then◌else◌, nat_lt, slice_index};
 
 use crate::member::Member;
 use std::alloc::{AllocError, Global};
@@ -35,13 +35,28 @@ pub enum RowError {
     OutOfMemory,
 }
 
-impl fmt::Display for RowError {
-    fn fmt<W: fmt::Write>(&self, f: &mut fmt::Formatter<W>) -> fmt::Result {
+impl RowError {
+    ghost use Rattle.rows.specs.Refusals.{row_error_message};
+
+    /// What is wrong, in words.
+    pub fn message(self) -> &'static str
+        ensures { result.now ≡ row_error_message self }
+    {
         match self {
-            RowError::MemberCount => write!(f, "a row has 1 to 32 members"),
-            RowError::LargeValue => write!(f, "a value is above 63"),
-            RowError::OutOfMemory => write!(f, "there is no memory for a row"),
+            RowError::MemberCount => "a row has 1 to 32 members",
+            RowError::LargeValue => "a value is above 63",
+            RowError::OutOfMemory => "there is no memory for a row",
         }
+    }
+}
+
+impl fmt::Display for RowError {
+    ghost use Rattle.rows.specs.Refusals.{row_error_message};
+
+    ghost output = { λ error. Some (row_error_message error) };
+
+    fn fmt<W: fmt::Write>(&self, f: &mut fmt::Formatter<W>) -> fmt::Result {
+        f.write_str(self.message())
     }
 }
 

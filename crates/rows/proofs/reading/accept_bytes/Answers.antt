@@ -1,12 +1,12 @@
 use Rattle.std.proofs.Common.{Err, Result, sym, ap, ◌∙◌}
 use Rattle.std.proofs.lemmas.Result.{err_from_is_err_and}
-use Rattle.rows.specs.declared.fault.RowFault.{RowFault}
+use Rattle.rows.specs.declared.refusal.RowRefusal.{RowRefusal}
 use Rattle.rows.specs.Views.{row_of}
 use Rattle.rows.proofs.Readings.{verdict_failed, verdict_declined}
 use Rattle.rows.proofs.reading.accept_bytes.Goals as goal
 
 -- an error that a `?` hands on
-handed_on : RowFault → Result Unit RowFault
+handed_on : RowRefusal → Result Unit RowRefusal
 handed_on e = Err e
 
 pub returns-in_err-read_row-clause-value : goal.returns-in_err-read_row-clause-value

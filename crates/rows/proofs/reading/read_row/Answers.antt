@@ -1,6 +1,6 @@
 use Rattle.std.proofs.Common.{◌≤◌, Err, Result, sym, ap, ◌∙◌, arith, rules}
 use Rattle.std.proofs.lemmas.Result.{err_from_is_err_and}
-use Rattle.rows.specs.declared.fault.RowFault.{RowFault}
+use Rattle.rows.specs.declared.refusal.RowRefusal.{RowRefusal}
 use Rattle.rows.specs.Bytes.{head_length}
 use Rattle.rows.specs.Views.{row_of}
 use Rattle.rows.proofs.Readings.{layout_passed, layout_right, layout_failed, row_unread, row_read}
@@ -21,7 +21,7 @@ returns g c =
 pub returns-in_err-start-clause-value : goal.returns-in_err-start-clause-value
 returns-in_err-start-clause-value g c =
     let q = err_from_is_err_and c.from_residual.result c.from_residual.ensures.1 in
-    let err : RowFault → Result Unit RowFault = λ e. Err e in
+    let err : RowRefusal → Result Unit RowRefusal = λ e. Err e in
     q.1 ∙ ap err q.2 ∙ sym (layout_failed g.B.Bank.meaning c.args.bytes.now (head_length g.B.Bank.meaning c.args.bytes.now) c.in_err-start.field-0.0 c.in_err-start.ensures)
 
 pub returns-in_err-start-clause-after : goal.returns-in_err-start-clause-after
