@@ -5,7 +5,7 @@ use Rattle.std.proofs.lemmas.List.Sums.{AllPass-from_list_all}
 use Rattle.std.specs.Prelude.{Ok, Err, All}
 use Rattle.std.specs.List.{list_all}
 use lib.Count.{ones, count_trailing_zeros, count_leading_zeros}
-use Rattle.rows.specs.declared.fault.Fault.TheVariants.{Undeclared, RuleBroken}
+use Rattle.rows.specs.declared.refusal.KindRefusal.TheVariants.{Undeclared, RuleBroken}
 use Rattle.rows.specs.declared.trace.Trace.{Trace}
 use Rattle.rows.specs.declared.trace.Trace.TheVariants.{Settled, Open}
 use Rattle.rows.specs.Rows.{Verdict}

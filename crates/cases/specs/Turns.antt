@@ -1,7 +1,7 @@
 -- The cases of turns, traces and acceptance, each of which the checker computes. A set is written as a number: {1} is 2,
 -- {1,2} is 6, {2,3} is 12.
 use Rattle.std.specs.Prelude.{◌≡◌, ℕ, List, [], ◌∷◌, pos, negsuc, Ok, Err, All}
-use Rattle.rows.specs.declared.fault.Fault.TheVariants.{Undeclared, RuleBroken}
+use Rattle.rows.specs.declared.refusal.KindRefusal.TheVariants.{Undeclared, RuleBroken}
 use Rattle.rows.specs.declared.trace.Trace.{Trace}
 use Rattle.rows.specs.declared.trace.Trace.TheVariants.{Settled, Open}
 use Rattle.rows.specs.Rows.{RowData, Verdict, Meaning}

@@ -18,7 +18,7 @@ ghost use Rattle.search.specs.Calls.{Call};
 ghost use Rattle.table.specs.Shown.{found_in, CallDone, solve_answer};
 
 use rows::bank::Alone;
-use rows::fault::Fault;
+use rows::refusal::KindRefusal;
 use rows::kind::Kind;
 use rows::row::Row;
 use rows::trace::Trace;
@@ -61,7 +61,7 @@ impl Kind for Loose {
     ghost lawful = { loose_lawful };
 
     // Data of any shape are accepted: the shape is checked where a row is read.
-    fn accept(_row: &Row, _voices: usize) -> Result<(), Fault> {
+    fn accept(_row: &Row, _voices: usize) -> Result<(), KindRefusal> {
         Ok(())
     }
 

@@ -1,7 +1,7 @@
 -- Why a voice or a row is declined beside the voices and rows that are there: by the smallest number that fits.
 use Rattle.std.specs.Prelude.{ℕ, ◌+◌, Bool, true, false, not, ◌||◌, List, [], ◌∷◌, length, drop, Ok, Err, ◌==◌, nat_le, nat_lt}
 use Rattle.rows.specs.Limits.{most_voices, most_rows, most_bytes}
-use Rattle.rows.specs.Numbers.{number_of}
+use Rattle.rows.specs.Refusals.{kind_number}
 use Rattle.rows.specs.Rows.{RowData, Meaning, Verdict}
 use Rattle.rows.specs.Bytes.{head_length, lettered, counted, right_length, marked, decode, total_bytes}
 
@@ -10,7 +10,7 @@ use Rattle.rows.specs.Bytes.{head_length, lettered, counted, right_length, marke
 -- a kind declines a row under this number
 abbrev pub declined_under : ℕ → Verdict → Bool
 declined_under n (Ok x) = false
-declined_under n (Err f) = number_of f == n
+declined_under n (Err f) = kind_number f == n
 
 -- of one voice more, with this opening set
 abbrev pub voice_reasons : List ℕ → ℕ → List (ℕ × Bool)

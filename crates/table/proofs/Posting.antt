@@ -3,10 +3,10 @@ use Rattle.std.proofs.Common.{◌≡◌, ℕ, ◌+◌, ◌-◌, ◌<◌, ◌≤�
 use Rattle.std.proofs.lemmas.List.{take-set, take_more_set, map_push}
 use Rattle.std.proofs.lemmas.Bool.{le-leb, lt-leb, le-ltb, lt-ltb, leb-true, leb-false, ltb-false, or_left, or_parts, not_from_true}
 use Rattle.rows.specs.declared.row.Row.{Row}
-use Rattle.rows.specs.declared.fault.Fault.TheVariants.{Undeclared, RuleBroken}
-use Rattle.rows.specs.declared.fault.RowFault.{RowFault}
-use Rattle.rows.specs.declared.fault.RowFault.TheVariants.{UnknownLetter, BadCount, WrongLength, UnmarkedMember, Declined}
-use Rattle.rows.specs.Numbers.{row_number_of}
+use Rattle.rows.specs.declared.refusal.KindRefusal.TheVariants.{Undeclared, RuleBroken}
+use Rattle.rows.specs.declared.refusal.RowRefusal.{RowRefusal}
+use Rattle.rows.specs.declared.refusal.RowRefusal.TheVariants.{UnknownLetter, BadCount, WrongLength, UnmarkedMember, ByKind}
+use Rattle.rows.specs.Refusals.{row_number}
 use Rattle.rows.specs.Rows.{RowData, Meaning, Verdict}
 use Rattle.rows.specs.Views.{row_of, rows_of}
 use Rattle.rows.specs.Bytes.{Bytes, head_length, lettered, counted, right_length, marked, Layout, decode, encode, total_bytes}
@@ -21,7 +21,7 @@ use Rattle.rows.specs.Refusing.Judgement.{passes, declined}
 -- ---- the refusals
 
 -- the answer and the refusals by their tests
-abbrev answered : Bool → Bool → Bool → Bool → Verdict → Result (Unit {0}) RowFault
+abbrev answered : Bool → Bool → Bool → Bool → Verdict → Result (Unit {0}) RowRefusal
 answered a b c d x = checked a UnknownLetter (checked b BadCount (checked c WrongLength (checked d UnmarkedMember (of_kind x))))
 
 abbrev tests : Bool → Bool → Bool → Bool → Verdict → Bool → List (ℕ × Bool)
@@ -29,25 +29,25 @@ tests a b c d x full =
     (2, not a) ∷ (5, not b) ∷ (6, not c) ∷ (7, not d) ∷ (8, declined_under 8 x) ∷ (9, declined_under 9 x) ∷ (12, full) ∷ []
 
 abbrev pub Answered : Type 0
-Answered = Result (Unit {0}) RowFault
+Answered = Result (Unit {0}) RowRefusal
 
-abbrev pub fault : RowFault → Answered
+abbrev pub fault : RowRefusal → Answered
 fault f = Err f
 
-never : {A : Type 0} (f : RowFault) (x : Unit {0}) → fault f ≡ Ok x → A
+never : {A : Type 0} (f : RowRefusal) (x : Unit {0}) → fault f ≡ Ok x → A
 never f x e = let z : ◌≡◌ {A = ℕ} 0 1 = cc in absurd (omega arith)
 
-under : (f k : RowFault) → fault f ≡ fault k → declined (row_number_of k) ≡ declined (row_number_of f)
-under f k e = let p : k ≡ f = cc in ap (λ (x : RowFault). declined (row_number_of x)) p
+under : (f k : RowRefusal) → fault f ≡ fault k → declined (row_number k) ≡ declined (row_number f)
+under f k e = let p : k ≡ f = cc in ap (λ (x : RowRefusal). declined (row_number x)) p
 
-faulty : (a b c d : Bool) (x : Verdict) (full : Bool) (f : RowFault) → fault f ≡ answered a b c d x → judge (tests a b c d x full) ≡ declined (row_number_of f)
+faulty : (a b c d : Bool) (x : Verdict) (full : Bool) (f : RowRefusal) → fault f ≡ answered a b c d x → judge (tests a b c d x full) ≡ declined (row_number f)
 faulty false b c d x full f e = under f UnknownLetter e
 faulty true false c d x full f e = under f BadCount e
 faulty true true false d x full f e = under f WrongLength e
 faulty true true true false x full f e = under f UnmarkedMember e
 faulty true true true true (Ok y) full f e = never f y e
-faulty true true true true (Err Undeclared) full f e = under f (Declined Undeclared) e
-faulty true true true true (Err RuleBroken) full f e = under f (Declined RuleBroken) e
+faulty true true true true (Err Undeclared) full f e = under f (ByKind Undeclared) e
+faulty true true true true (Err RuleBroken) full f e = under f (ByKind RuleBroken) e
 
 faultless : (a b c d : Bool) (x : Verdict) (full : Bool) (y : Unit {0}) → Ok y ≡ answered a b c d x → judge (tests a b c d x full) ≡ judge ((12, full) ∷ [])
 faultless false b c d x full y e = never UnknownLetter y (sym e)
@@ -55,7 +55,7 @@ faultless true false c d x full y e = never BadCount y (sym e)
 faultless true true false d x full y e = never WrongLength y (sym e)
 faultless true true true false x full y e = never UnmarkedMember y (sym e)
 faultless true true true true (Ok z) full y e = refl
-faultless true true true true (Err f) full y e = never (Declined f) y (sym e)
+faultless true true true true (Err f) full y e = never (ByKind f) y (sym e)
 
 all_right : (a b c d : Bool) (x : Verdict) (y : Unit {0}) → Ok y ≡ answered a b c d x → (a ≡ true) × (b ≡ true) × (c ≡ true) × (d ≡ true)
 all_right false b c d x y e = never UnknownLetter y (sym e)
@@ -70,14 +70,14 @@ all_yes true false c d x y e = never BadCount y (sym e)
 all_yes true true false d x y e = never WrongLength y (sym e)
 all_yes true true true false x y e = never UnmarkedMember y (sym e)
 all_yes true true true true (Ok z) y e = refl
-all_yes true true true true (Err f) y e = never (Declined f) y (sym e)
+all_yes true true true true (Err f) y e = never (ByKind f) y (sym e)
 
 -- no row more has room
 abbrev pub full_for : List RowData → ℕ → Bool
 full_for rows bytes = leb most_rows (length rows) || ltb most_bytes (total_bytes rows + bytes)
 
 module _ (m : Meaning) (t : Table) (bs : List ℕ) where
-  pub bytes_decline : (f : RowFault) → fault f ≡ row_verdict m bs (length t.voices) → judged m t (post bs) ≡ declined (row_number_of f)
+  pub bytes_decline : (f : RowRefusal) → fault f ≡ row_verdict m bs (length t.voices) → judged m t (post bs) ≡ declined (row_number f)
   bytes_decline f e =
       faulty (lettered m bs) (counted bs) (right_length m bs) (marked (drop (head_length m bs) bs)) (m.accepts (decode m bs) (length t.voices)) (full_for t.rows (length bs)) f e
 
@@ -145,7 +145,7 @@ pub rows_pushed : (m : Meaning) (items : List Row) (n : ℕ) (r : Row) (bs : Lis
 rows_pushed m items n r bs before h l e =
     ap rows_of (take_more_set items n r h)
     ∙ map_push row_of (take n items) r
-    ∙ ap (λ (x : RowData). rows_of (take n items) ++ (x ∷ [])) (e ∙ ap (λ (x : Result (Unit {0}) RowFault). cond (is_ok x) (decode m bs) before) (layout_right m bs l))
+    ∙ ap (λ (x : RowData). rows_of (take n items) ++ (x ∷ [])) (e ∙ ap (λ (x : Result (Unit {0}) RowRefusal). cond (is_ok x) (decode m bs) before) (layout_right m bs l))
 
 total_push : (rows : List RowData) (r : RowData) → total_bytes (rows ++ (r ∷ [])) ≡ total_bytes rows + length (encode r)
 total_push [] r = omega arith

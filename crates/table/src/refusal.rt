@@ -3,14 +3,14 @@ ghost use Rattle.std.specs.Prelude.{◌≡◌, Some, decimal};
 ghost use Rattle.table.specs.Refusals.{refusal_number};
 ghost use Rattle.table.specs.declared.refusal.Refusal.TheVariants.{Row};
 
-use rows::fault::RowFault;
+use rows::refusal::RowRefusal;
 use std::error::Error;
 use std::fmt;
 
 #[derive(Clone, Copy, Debug, PartialEq, Eq)]
 pub enum Refusal {
     // Post: the bytes are no row, or the row's kind declines it
-    Row(RowFault),
+    Row(RowRefusal),
     // Declare: the set has no value; there are as many voices as there can be
     EmptySet,
     VoicesFull,
@@ -54,10 +54,10 @@ impl fmt::Display for Refusal {
 
 impl Error for Refusal {}
 
-impl From<RowFault> for Refusal {
+impl From<RowRefusal> for Refusal {
     ghost from_gives = { λ fault r. r ≡ Row fault };
 
-    fn from(cause: RowFault) -> Refusal {
+    fn from(cause: RowRefusal) -> Refusal {
         Refusal::Row(cause)
     }
 }

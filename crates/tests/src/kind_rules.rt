@@ -3,7 +3,7 @@ use kinds::all_different::AllDifferent;
 use kinds::clause::{Clause, Literal};
 use kinds::element::Element;
 use kinds::linear::Linear;
-use rows::fault::Fault;
+use rows::refusal::KindRefusal;
 use rows::kind::Kind;
 use rows::member::Member;
 use rows::row::{Row, RowError};
@@ -23,7 +23,7 @@ fn row(heap: Global, letter: u8, rest: &[u8], members: &[(u16, i16)]) -> Result<
 }
 
 // The number of the refusal, where a row is declined.
-fn number(verdict: Result<(), Fault>) -> Option<u8> {
+fn number(verdict: Result<(), KindRefusal>) -> Option<u8> {
     verdict.err().map(|fault| fault.number())
 }
 

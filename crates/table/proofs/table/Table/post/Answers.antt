@@ -4,7 +4,7 @@ use Rattle.std.proofs.lemmas.Result.{err_from_is_err_and}
 use Rattle.rows.specs.Rows.{RowData}
 use Rattle.rows.specs.Laws.{Accepted}
 use Rattle.rows.specs.Bytes.{Bytes, decode, total_bytes}
-use Rattle.rows.specs.Numbers.{row_number_of}
+use Rattle.rows.specs.Refusals.{row_number}
 use Rattle.rows.specs.Reading.{row_verdict}
 use Rattle.rows.specs.Views.{row_of, rows_of}
 use Rattle.rows.specs.Placed.{Ready}
@@ -45,9 +45,9 @@ returns-in_err-accept_bytes g c =
     let n : c.len-voices.result ≡ length (vec_items t.voices) = omega (arith, c.len-voices.ensures, t.voices.ok.0) in
     let e : fault f ≡ row_verdict m bs (length (vec_items t.voices)) = c.in_err-accept_bytes.ensures.value ∙ ap (λ (k : ℕ). row_verdict m bs k) n in
     let p = err_from_is_err_and c.from_residual.result c.from_residual.ensures.1 in
-    let a : done_answer c.from_residual.result ≡ Answer.refused (row_number_of f) =
+    let a : done_answer c.from_residual.result ≡ Answer.refused (row_number f) =
     ap (λ (x : Result (Unit {0}) Refusal). done_answer x) p.1 ∙ ap (λ (x : Refusal). Answer.refused (refusal_number x)) p.2 in
-    let d = declines_kept g.S.Store.behaviour m (vec_items t.voices) (rows_in t) rows t.search v (post bs) (row_number_of f) (done_answer c.from_residual.result)
+    let d = declines_kept g.S.Store.behaviour m (vec_items t.voices) (rows_in t) rows t.search v (post bs) (row_number f) (done_answer c.from_residual.result)
     (rows_kept t.rows.items t.posted c.accept_bytes.new.row) a (bytes_decline m (model t) bs f e) in
     record { does = d; history = extends_by g.S.Store.behaviour m g.met.B.Bank.lawful (model t) v (post bs) (done_answer c.from_residual.result) (table_of (vec_items t.voices) rows t.search) v b d; declined = on_err c.from_residual.result refl }
 
