@@ -1,13 +1,13 @@
 -- The law of sheets, and what a Load comes to after any calls.
 use Rattle.std.proofs.Common.{true, false, is_err, Result, ◌≡◌, ℕ, List, [], ◌∷◌, sym, refl, ap, ◌∙◌, subst, subst₂, arith}
-use Rattle.rows.specs.Rows.{RowData, Meaning}
+use Rattle.rows.specs.Rows.{Meaning}
 use Rattle.rows.specs.Laws.{Laws}
-use Rattle.rows.specs.Bytes.{Bytes, encode}
+use Rattle.rows.specs.Bytes.{Bytes}
 use Rattle.stores.specs.Behaviours.{Behaviour}
-use Rattle.search.specs.Calls.{Table, empty, begun, Call, Answer, Does, lost_after}
-use Rattle.search.specs.Calls.Call.{declare, post, solve, read, wipe}
+use Rattle.search.specs.Calls.{Table, empty, begun, Call, Answer, Does}
+use Rattle.search.specs.Calls.Call.{wipe}
 use Rattle.search.specs.Calls.Answer.{done}
-use Rattle.search.specs.Histories.{History, keys_lost, LeadsTo}
+use Rattle.search.specs.Histories.{History, LeadsTo}
 use Rattle.search.specs.Results.{Limited, Invariant}
 use Rattle.search.proofs.AnyStore.{history_any}
 use Rattle.search.proofs.HistoryFacts.{fit}
@@ -17,7 +17,7 @@ use Rattle.sheets.specs.Sheets.{sheet}
 use Rattle.sheets.specs.Reading.{SheetReading, read_sheet}
 use Rattle.sheets.specs.Reading.SheetReading.{accepted, refused}
 use Rattle.sheets.specs.Laws.{SheetLawsHold, declared_after, posted_after}
-use Rattle.sheets.specs.Loading.{load_answer, reading_answer, table_after, LoadLeaves, FillHistory, LoadHistory, LoadExtends, LoadBack, RecordsRead}
+use Rattle.sheets.specs.Loading.{load_answer, reading_answer, table_after, FillHistory, FillExtends, LoadLeaves, LoadExtends, LoadBack, RecordsRead}
 use Rattle.sheets.proofs.Loaded.{ReadRight, read_right}
 use Rattle.sheets.proofs.Saved.{saved_loads}
 
@@ -28,58 +28,15 @@ sheet_laws_hold m L = record {
   first_fault = λ bs b number place layer e. subst (ReadRight m L bs) e (read_right m L bs b);
 }
 
--- ---- keys lost
-
--- the newest of these calls emptied the store
-abbrev Emptied : List (Call × Answer) → Type 0
-Emptied [] = Unit {0}
-Emptied ((declare s, a) ∷ h) = a ≡ done
-Emptied ((post bs, a) ∷ h) = a ≡ done
-Emptied ((solve budget, a) ∷ h) = ⊥
-Emptied ((read buffer, a) ∷ h) = ⊥
-Emptied ((wipe, a) ∷ h) = a ≡ done
-
-emptied_posted : (h : List (Call × Answer)) (rows : List RowData) → Emptied h → Emptied (posted_after h rows)
-emptied_posted h [] e = e
-emptied_posted h (r ∷ rows) e = emptied_posted ((post (encode r), done) ∷ h) rows refl
-
-emptied_declared : (h : List (Call × Answer)) (voices : List ℕ) → Emptied h → Emptied (declared_after h voices)
-emptied_declared h [] e = e
-emptied_declared h (s ∷ voices) e = emptied_declared ((declare s, done) ∷ h) voices refl
-
-module _ (b : Behaviour) (m : Meaning) where
-  refused_emptied : (h : List (Call × Answer)) (c : Call) (n : ℕ) → Emptied ((c, Answer.refused n) ∷ h) → ⊥
-  refused_emptied h (declare s) n e = cc
-  refused_emptied h (post bs) n e = cc
-  refused_emptied h (solve budget) n e = e
-  refused_emptied h (read buffer) n e = e
-  refused_emptied h wipe n e = cc
-
-  lost_emptied : {t u : Table} {s r : b.State} {c : Call} {a : Answer} (h : List (Call × Answer)) (D : Does b m t s c a u r) (n : ℕ) → Emptied ((c, a) ∷ h)
-      → lost_after D n ≡ 0
-  lost_emptied h (Does.declines c k j) n e = absurd (refused_emptied h c k e)
-  lost_emptied h (Does.declares set r j x) n e = refl
-  lost_emptied h (Does.posts bs r j x) n e = refl
-  lost_emptied h (Does.wipes r x) n e = refl
-  lost_emptied h (Does.solves budget u r lost j S) n e = absurd e
-  lost_emptied h (Does.reads buffer p j x) n e = absurd e
-
-  -- a store that was just emptied has lost no key
-  none_lost : {g : b.State} {h : List (Call × Answer)} {t : Table} {s : b.State} (H : History b m g h t s) → Emptied h → keys_lost H ≡ 0
-  none_lost (History.made s x) e = refl
-  none_lost (History.then h t u s r c a H f D) e = lost_emptied h D (keys_lost H) e
-
 -- ---- after any calls
 
--- From the table t and the state s: a Wipe, to the state w; then the records were read, to the table x and the state y; and where the sheet was declined, a Wipe more, to
--- the table u and the state r.
-pub record Loaded (b : Behaviour) (m : Meaning) (bs : List ℕ) (s w : b.State) (x : Table) (y : b.State) (res : Result (Unit {0}) SheetRefusal) (u : Table) (r : b.State) : Type 0 where
-  pub wiped : b.empties s w
+-- From an empty table and the state w: the records were read, to the table x and the state y; and where the sheet was declined, a Wipe, to the table u and the state r.
+pub record Filled (b : Behaviour) (m : Meaning) (bs : List ℕ) (w : b.State) (x : Table) (y : b.State) (res : Result (Unit {0}) SheetRefusal) (u : Table) (r : b.State) : Type 0 where
   pub read : RecordsRead b m bs w x y (read_sheet m bs) res
   pub declined : is_err res ≡ true → (u ≡ empty) × b.empties y r
   pub accepted : is_err res ≡ false → (u ≡ x) × (r ≡ y)
 
-module _ (b : Behaviour) (m : Meaning) (L : Laws m) (bs : List ℕ) {s w y r : b.State} {x u : Table} {res : Result (Unit {0}) SheetRefusal} (l : Loaded b m bs s w x y res u r) where
+module _ (b : Behaviour) (m : Meaning) (L : Laws m) (bs : List ℕ) {w y r : b.State} {x u : Table} {res : Result (Unit {0}) SheetRefusal} (l : Filled b m bs w x y res u r) where
   answer_by : {o : SheetReading} (res' : Result (Unit {0}) SheetRefusal) → RecordsRead b m bs w x y o res' → load_answer res' ≡ reading_answer o
   answer_by res' (RecordsRead.ended voices rows e f) = refl
   answer_by res' (RecordsRead.faulted cause place first e f) = refl
@@ -92,24 +49,20 @@ module _ (b : Behaviour) (m : Meaning) (L : Laws m) (bs : List ℕ) {s w y r : b
   table_by res' (RecordsRead.ended voices rows e f) d a = (a refl).0 ∙ e
   table_by res' (RecordsRead.faulted cause place first e f) d a = (d refl).0
 
-  led : {g : b.State} {h : List (Call × Answer)} → Emptied h → History b m g h u r → LeadsTo b m g h u r 0
-  led e H = (H, none_lost b m H e)
-
   -- after the calls h, which led to the empty table that the records fill
   filled_by : {o : SheetReading} (res' : Result (Unit {0}) SheetRefusal) → RecordsRead b m bs w x y o res' → (is_err res' ≡ true → (u ≡ empty) × b.empties y r)
-      → (is_err res' ≡ false → (u ≡ x) × (r ≡ y)) → (g : b.State) (h : List (Call × Answer)) → Emptied h → History b m g h empty w → FillHistory b m g h bs o u r
-  filled_by res' (RecordsRead.ended voices rows e f) d a g h z H =
-      led (emptied_posted (declared_after h voices) rows (emptied_declared h voices z))
-      (subst₂ (λ (z : Table) (q : b.State). History b m g (posted_after (declared_after h voices) rows) z q) (sym ((a refl).0 ∙ e)) (sym (a refl).1) (f g h H))
-  filled_by res' (RecordsRead.faulted cause place first e f) d a g h z H =
+      → (is_err res' ≡ false → (u ≡ x) × (r ≡ y)) → (g : b.State) (h : List (Call × Answer)) → LeadsTo b m g h empty w 0 → FillHistory b m g h bs o u r
+  filled_by res' (RecordsRead.ended voices rows e f) d a g h H =
+      subst₂ (λ (z : Table) (q : b.State). LeadsTo b m g (posted_after (declared_after h voices) rows) z q 0) (sym ((a refl).0 ∙ e)) (sym (a refl).1) (f g h H)
+  filled_by res' (RecordsRead.faulted cause place first e f) d a g h H =
       let calls = posted_after (declared_after h first.voices) first.rows in (
         first,
-        led refl (subst (λ (z : Table). History b m g ((wipe, done) ∷ posted_after (declared_after h first.voices) first.rows) z r) (sym (d refl).0)
-            (History.then calls (begun first.voices first.rows) empty y r wipe done (f g h H) tt (Does.wipes r (d refl).1))),
+        subst (λ (z : Table). LeadsTo b m g ((wipe, done) ∷ posted_after (declared_after h first.voices) first.rows) z r 0) (sym (d refl).0)
+            (History.then calls (begun first.voices first.rows) empty y r wipe done (f g h H).0 tt (Does.wipes r (d refl).1), refl),
       )
 
-  filled : (g : b.State) (h : List (Call × Answer)) → Emptied h → History b m g h empty w → FillHistory b m g h bs (read_sheet m bs) u r
-  filled g h z H = filled_by res l.read l.declined l.accepted g h z H
+  filled : (g : b.State) (h : List (Call × Answer)) → LeadsTo b m g h empty w 0 → FillHistory b m g h bs (read_sheet m bs) u r
+  filled g h H = filled_by res l.read l.declined l.accepted g h H
 
   invariant_led : (g : b.State) (h : List (Call × Answer)) → LeadsTo b m g h u r 0 → Invariant m 0 u (b.view r)
   invariant_led g h (H, e) = subst (λ (n : ℕ). Invariant m n u (b.view r)) e (invariant_holds b m L g h u r H)
@@ -118,16 +71,28 @@ module _ (b : Behaviour) (m : Meaning) (L : Laws m) (bs : List ℕ) {s w y r : b
   invariant_by (accepted voices rows) g h H = invariant_led g (posted_after (declared_after h voices) rows) H
   invariant_by (refused number place layer) g h H = invariant_led g ((wipe, done) ∷ posted_after (declared_after h H.0.voices) H.0.rows) H.1
 
-  pub leaves : LoadLeaves b m bs s u r
-  leaves =
-      let history = filled s [] tt (History.made w l.wiped) in
-      record { table = table_by res l.read l.declined l.accepted; history = history; invariant = invariant_by (read_sheet m bs) s [] history }
+  pub leaves : u ≡ table_after (read_sheet m bs)
+  leaves = table_by res l.read l.declined l.accepted
 
-  pub history : (t : Table) → LoadExtends b m t s bs u r
-  history t =
-      let history : (g : b.State) (h : List (Call × Answer)) → History b m g h t s → LoadHistory b m g h bs (read_sheet m bs) u r =
-      λ g h H. filled g ((wipe, done) ∷ h) refl (History.then h t empty s w wipe done H tt (Does.wipes w l.wiped)) in
-      record { history = history; invariant = λ g h H. invariant_by (read_sheet m bs) g ((wipe, done) ∷ h) (history g h H) }
+  pub extends : FillExtends b m w bs u r
+  extends = record { history = filled; invariant = λ g h H. invariant_by (read_sheet m bs) g h (filled g h H) }
+
+-- a history of no calls leads to an empty table, and has lost no key
+pub begins : (b : Behaviour) (m : Meaning) {g s : b.State} {t : Table} → History b m g [] t s → (t ≡ empty) × LeadsTo b m g [] empty s 0
+begins b m (History.made s e) = (refl, (History.made s e, refl))
+
+-- the records, read from the state w, in which a Wipe or Make left the store that was in the state s
+module _ (b : Behaviour) (m : Meaning) (bs : List ℕ) {s w r : b.State} {u : Table} (F : FillExtends b m w bs u r) where
+  -- over a new table
+  pub load_leaves : LeadsTo b m s [] empty w 0 → u ≡ table_after (read_sheet m bs) → LoadLeaves b m bs s u r
+  load_leaves made e = record { table = e; history = F.history s [] made; invariant = F.invariant s [] made }
+
+  -- after a Wipe of the table t
+  pub load_extends : b.empties s w → (t : Table) → LoadExtends b m t s bs u r
+  load_extends wiped t =
+      let wiping : (g : b.State) (h : List (Call × Answer)) → History b m g h t s → LeadsTo b m g ((wipe, done) ∷ h) empty w 0 =
+      λ g h H. (History.then h t empty s w wipe done H tt (Does.wipes w wiped), refl) in
+      record { history = λ g h H. F.history g ((wipe, done) ∷ h) (wiping g h H); invariant = λ g h H. F.invariant g ((wipe, done) ∷ h) (wiping g h H) }
 
 -- ---- loaded and saved, saved and loaded
 

@@ -15,7 +15,7 @@ use Rattle.stores.specs.Bare.{bare}
 use Rattle.search.specs.Calls.{Table, begun, Call, Answer, Judgement, reasons, judged, Does}
 use Rattle.search.specs.Calls.Call.{declare, post}
 use Rattle.search.specs.Calls.Answer.{done}
-use Rattle.search.specs.Histories.{History}
+use Rattle.search.specs.Histories.{History, LeadsTo}
 use Rattle.search.proofs.AnyStore.{history_any}
 use Rattle.search.proofs.HistoryFacts.{none_fits, fit}
 use Rattle.search.proofs.OverEvery.{limits_hold}
@@ -134,8 +134,8 @@ module _ (b : Behaviour) (m : Meaning) (whole : List ℕ) (w : b.State) where
             let before = posted_after (declared_after h voices) rows in
             let same : (declare s, done) ∷ before ≡ posted_after (declared_after h (voices ++ (s ∷ []))) rows =
             subst (λ (z : List RowData). (declare s, done) ∷ posted_after (declared_after h voices) z ≡ posted_after (declared_after h (voices ++ (s ∷ []))) z) (sym V.no_rows) (sym (declared_push h voices s)) in
-            subst (λ (z : List (Call × Answer)). History b m g z (begun (voices ++ (s ∷ [])) rows) y) same
-            (History.then before (begun voices rows) (begun (voices ++ (s ∷ [])) rows) x y (declare s) done (R.fills g h H) (voice_fits_word m voices rows bs s V R.bytes) (Does.declares s y V.passes e));
+            subst (λ (z : List (Call × Answer)). LeadsTo b m g z (begun (voices ++ (s ∷ [])) rows) y 0) same
+            (History.then before (begun voices rows) (begun (voices ++ (s ∷ [])) rows) x y (declare s) done (R.fills g h H).0 (voice_fits_word m voices rows bs s V R.bytes) (Does.declares s y V.passes e), refl);
       }
 
   pub one_row : (at : ℕ) (voices : List ℕ) (rows : List RowData) (bs r : List ℕ) (x y : b.State) → ReadSo b m whole w at voices rows bs x → RowHere m voices rows bs r
@@ -153,8 +153,8 @@ module _ (b : Behaviour) (m : Meaning) (whole : List ℕ) (w : b.State) where
             let before = posted_after (declared_after h voices) rows in
             let same : (post r, done) ∷ before ≡ posted_after (declared_after h voices) (rows ++ (d ∷ [])) =
             ap (λ (z : List ℕ). (post z, done) ∷ before) (sym f.1) ∙ sym (posted_push (declared_after h voices) rows d) in
-            subst (λ (z : List (Call × Answer)). History b m g z (begun voices (rows ++ (d ∷ []))) y) same
-            (History.then before (begun voices rows) (begun voices (rows ++ (d ∷ []))) x y (post r) done (R.fills g h H) f.0 (Does.posts r y V.passes e));
+            subst (λ (z : List (Call × Answer)). LeadsTo b m g z (begun voices (rows ++ (d ∷ []))) y 0) same
+            (History.then before (begun voices rows) (begun voices (rows ++ (d ∷ []))) x y (post r) done (R.fills g h H).0 f.0 (Does.posts r y V.passes e), refl);
       }
 
 -- ---- over the bare store, which has one state
@@ -165,7 +165,7 @@ BareRead m whole at voices rows bs = ReadSo bare m whole tt at voices rows bs tt
 module _ (m : Meaning) (L : Laws m) (whole : List ℕ) where
   pub holdable : {voices : List ℕ} {rows : List RowData} → Fills bare m tt voices rows tt → Holdable m voices rows
   holdable {voices} {rows} f =
-      let H = f tt [] (History.made tt tt) in
+      let H = (f tt [] (History.made tt tt, refl)).0 in
       record { limited = limits_hold bare m tt (posted_after (declared_after [] voices) rows) (begun voices rows) tt H; all_accepted = (fit m L (history_any bare m H)).okay }
 
   -- the first fault

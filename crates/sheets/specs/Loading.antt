@@ -1,13 +1,17 @@
 -- What Load answers and leaves, and what lasts over whole histories of calls.
 use Rattle.std.specs.Prelude.{◌≡◌, ℕ, List, [], ◌∷◌, ◌++◌, length, Some, None, Ok, Err, Option, Result}
+use Rattle.rows.specs.declared.bank.Bank as bank
 use Rattle.rows.specs.Rows.{RowData, Meaning}
 use Rattle.rows.specs.Bytes.{decode}
+use Rattle.stores.specs.declared.store.Store as store
 use Rattle.stores.specs.Behaviours.{Behaviour}
 use Rattle.search.specs.Calls.{Table, Call, Answer, begun, empty}
 use Rattle.search.specs.Calls.Call.{wipe}
 use Rattle.search.specs.Calls.Answer.{done}
 use Rattle.search.specs.Histories.{History, LeadsTo}
 use Rattle.search.specs.Results.{Invariant}
+use Rattle.table.specs.declared.table.Table as tables
+use Rattle.table.specs.Shown.{model, store_in}
 use Rattle.sheets.specs.declared.refusal.RecordRefusal.{RecordRefusal}
 use Rattle.sheets.specs.declared.refusal.Layer.{Layer}
 use Rattle.sheets.specs.declared.refusal.SheetRefusal.{SheetRefusal}
@@ -64,6 +68,23 @@ pub record LoadLeaves (b : Behaviour) (m : Meaning) (bytes : List ℕ) (s : b.St
   pub table : u ≡ table_after (read_sheet m bytes)
   pub history : FillHistory b m s [] bytes (read_sheet m bytes) u r
   pub invariant : Invariant m 0 u (b.view r)
+
+-- A new table over a store that was in this state, and the answer of its Load: the one that the sheet
+-- must have, and the table as a Load leaves it.
+module _ {B S : Type 0} {b : bank.Ghosts B} {s : store.Ghosts S} where
+  pub record LoadsNew (given : s.behaviour.State) (bytes : List ℕ) (t : tables.Table B S b s)
+      (answer : Result Unit SheetRefusal) : Type 0 where
+    pub value : load_answer answer ≡ reading_answer (read_sheet b.meaning bytes)
+    pub leaves : LoadLeaves s.behaviour b.meaning bytes given (model t) (store_in t)
+
+-- Whatever the calls were that led to an empty table and the state s, in which no key was lost: so it
+-- is after the records; and what holds after every history holds.
+pub record FillExtends (b : Behaviour) (m : Meaning) (s : b.State) (bytes : List ℕ) (u : Table)
+    (r : b.State) : Type 0 where
+  pub history : (g : b.State) (h : List (Call × Answer)) → LeadsTo b m g h empty s 0
+      → FillHistory b m g h bytes (read_sheet m bytes) u r
+  pub invariant : (g : b.State) (h : List (Call × Answer)) → LeadsTo b m g h empty s 0
+      → Invariant m 0 u (b.view r)
 
 -- Whatever the calls were that led to the table t and the state s: so it is then; and what holds
 -- after every history holds.
@@ -122,11 +143,13 @@ pub record RecordRead (b : Behaviour) (m : Meaning) (t : Table) (s : b.State) (i
   pub table : u ≡ record_table m t.voices t.rows i
   pub store : RecordStored b i s r
 
--- Whatever the calls were that led to an empty table and the state s: with a Declare for each of these voices and a Post for each of these rows, all accepted, they
--- lead to a table with these, its search not begun, and the state r.
+-- Whatever the calls were that led to an empty table and the state s, in which no key was lost: with
+-- a Declare for each of these voices and a Post for each of these rows, all accepted, they lead to a
+-- table with these, its search not begun, and the state r, in which no key was lost.
 abbrev pub Fills : (b : Behaviour) (m : Meaning) (s : b.State) (voices : List ℕ) (rows : List RowData) → b.State → Type 0
 Fills b m s voices rows r =
-    (g : b.State) (h : List (Call × Answer)) → History b m g h empty s → History b m g (posted_after (declared_after h voices) rows) (begun voices rows) r
+    (g : b.State) (h : List (Call × Answer)) → LeadsTo b m g h empty s 0
+    → LeadsTo b m g (posted_after (declared_after h voices) rows) (begun voices rows) r 0
 
 -- all records are read, up to the sheet's end or its first fault
 pub data RecordsRead (b : Behaviour) (m : Meaning) (bytes : List ℕ) (s : b.State) (u : Table) (r : b.State) : SheetReading → Result Unit SheetRefusal → Type 0 where

@@ -1,14 +1,15 @@
 // Sheets loaded.
-ghost use Rattle.std.specs.Prelude.{◌≡◌, true, false, is_err};
+ghost use Rattle.std.specs.Prelude.{◌≡◌, true, false, is_err, IfOk};
 ghost use Rattle.search.specs.Calls.{empty, Call, Answer};
 ghost use Rattle.table.specs.Shown.{model, store_in, CallDone};
 ghost use Rattle.sheets.specs.Reading.{front_row, read_voice, read_row, read_record, read_sheet};
-ghost use Rattle.sheets.specs.Loading.{load_answer, reading_answer, LoadLeaves, LoadBack, LoadExtends, Unsearched, RecordRead, RecordsRead};
+ghost use Rattle.sheets.specs.Loading.{load_answer, reading_answer, table_after, FillExtends, LoadsNew, LoadLeaves, LoadBack, LoadExtends, Unsearched, RecordRead, RecordsRead};
 ghost use Rattle.sheets.specs.Saving.{sheet_of};
 
 use crate::record::{END_MARK, VOICE_MARK};
 use crate::refusal::{RecordRefusal, SheetRefusal};
 use rows::bank::Bank;
+use std::alloc::{AllocError, Global};
 use stores::store::Store;
 use table::Table;
 
@@ -109,8 +110,34 @@ fn wipe_declined<B: Bank, S: Store>(table: &mut Table<B, S>, res: &Result<(), Sh
     }
 }
 
-// Gives the table the voices and rows of the sheet, in place of its own. The store is emptied, and the search has not begun. A declined sheet leaves no
-// voices and no rows.
+// Gives an empty table, whose search has not begun, the voices and rows of the sheet. A declined sheet leaves no voices and no rows.
+fn fill<B: Bank, S: Store>(table: &mut Table<B, S>, bytes: &[u8]) -> Result<(), SheetRefusal>
+    requires { model table.old ≡ empty }
+    ensures value { load_answer result ≡ reading_answer (read_sheet B.Bank.meaning bytes.now) }
+    ensures after { model table.new ≡ table_after (read_sheet B.Bank.meaning bytes.now) }
+    ensures history { FillExtends S.Store.behaviour B.Bank.meaning (store_in table.old) bytes.now (model table.new) (store_in table.new) }
+{
+    let result = read_records(table, bytes);
+    wipe_declined(table, &result);
+    result
+}
+
+/// A new table over the store, with the voices and rows of the sheet; its search has not begun. A
+/// refused sheet leaves a table with no voices and no rows. Fails where there is no memory.
+pub fn load_new<B: Bank, S: Store + Drop>(
+    heap: Global,
+    store: S,
+    bytes: &[u8],
+) -> Result<(Table<B, S>, Result<(), SheetRefusal>), AllocError>
+    ensures { IfOk result (λ made. LoadsNew (S.Store.state store) bytes.now made.0 made.1) }
+{
+    let mut table = Table::make(heap, store)?;
+    let result = fill(&mut table, bytes);
+    Ok((table, result))
+}
+
+/// Gives the table the voices and rows of the sheet, in place of its own. The store is emptied, and the search has not begun. A declined sheet leaves no
+/// voices and no rows.
 pub fn load<B: Bank, S: Store>(table: &mut Table<B, S>, bytes: &[u8]) -> Result<(), SheetRefusal>
     ensures value { load_answer result ≡ reading_answer (read_sheet B.Bank.meaning bytes.now) }
     ensures after { LoadLeaves S.Store.behaviour B.Bank.meaning bytes.now (store_in table.old) (model table.new) (store_in table.new) }
@@ -118,7 +145,5 @@ pub fn load<B: Bank, S: Store>(table: &mut Table<B, S>, bytes: &[u8]) -> Result<
     ensures history { LoadExtends S.Store.behaviour B.Bank.meaning (model table.old) (store_in table.old) bytes.now (model table.new) (store_in table.new) }
 {
     table.wipe();
-    let result = read_records(table, bytes);
-    wipe_declined(table, &result);
-    result
+    fill(table, bytes)
 }
