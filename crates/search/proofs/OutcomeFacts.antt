@@ -38,19 +38,24 @@ module _ (store : Behaviour) (d : Decided store) (m : Meaning) where
   abbrev pub up : Stored → Ran store.State → Ran store.State
   up a r = record { place = r.place; state = r.state; exhausts = suc r.exhausts; loses = count_lost a r.loses }
 
+  -- nothing is exhausted, and the search stands here
+  abbrev pub stops : Place → store.State → Ran store.State
+  stops p v = record { place = p; state = v; exhausts = 0; loses = 0 }
+
+  -- at a level, by whether it has no value left to try; and how the backing up then goes on
+  abbrev pub backs_at : List RowData → Level → List Level → store.State → (store.State → Ran store.State) → Bool → Ran store.State
+  backs_at rows l ls v others spent =
+      elim spent [ false ↦ stops (going l ls) v | true ↦ up (d.answer v (key m rows l.sets)) (others (d.after v (key m rows l.sets))) ]
+
   abbrev pub backs : List RowData → List Level → store.State → Ran store.State
-  backs rows [] v = record { place = none; state = v; exhausts = 0; loses = 0 }
-  backs rows (l ∷ ls) v =
-      elim (eqb l.left 0) [
-        | false ↦ record { place = going l ls; state = v; exhausts = 0; loses = 0 }
-        | true ↦ up (d.answer v (key m rows l.sets)) (backs rows ls (d.after v (key m rows l.sets)))
-      ]
+  backs rows [] v = stops none v
+  backs rows (l ∷ ls) v = backs_at rows l ls v (backs rows ls) (eqb l.left 0)
 
   abbrev pub opened : List RowData → List Level → store.State → Node → Ran store.State
   opened rows ls v dead = backs rows ls v
-  opened rows ls v (solution p) = record { place = found p; state = v; exhausts = 0; loses = 0 }
+  opened rows ls v (solution p) = stops (found p) v
   opened rows ls v hit = backs rows ls v
-  opened rows ls v (branch l) = record { place = going l ls; state = v; exhausts = 0; loses = 0 }
+  opened rows ls v (branch l) = stops (going l ls) v
 
   abbrev pub opens : List RowData → List ℕ → List Level → store.State → Ran store.State
   opens rows b ls v = opened rows ls v (node m rows (store.view v) (below ls) (propagated m rows b))
@@ -58,8 +63,8 @@ module _ (store : Behaviour) (d : Decided store) (m : Meaning) where
   abbrev pub step : List ℕ → List RowData → Place → store.State → Ran store.State
   step voices rows fresh v = opens rows voices [] v
   step voices rows (going l ls) v = opens rows (child l) (taken l ∷ ls) v
-  step voices rows (found p) v = record { place = found p; state = v; exhausts = 0; loses = 0 }
-  step voices rows none v = record { place = none; state = v; exhausts = 0; loses = 0 }
+  step voices rows (found p) v = stops (found p) v
+  step voices rows none v = stops none v
 
   abbrev pub next : Table → Ran store.State → Table
   next t r = node_more t r.place r.exhausts
@@ -72,10 +77,14 @@ module _ (store : Behaviour) (d : Decided store) (m : Meaning) where
   abbrev pub run_on : (Table → store.State → Table × store.State × ℕ) → Table → Ran store.State → Table × store.State × ℕ
   run_on others t r = lost_first r.loses (others (next t r) r.state)
 
+  -- by whether the search is over
+  abbrev pub run_by : (Table → store.State → Table × store.State × ℕ) → Table → store.State → Bool → Table × store.State × ℕ
+  run_by others t v ended = elim ended [ true ↦ (t, v, 0) | false ↦ run_on others t (step t.voices t.rows t.place v) ]
+
   -- the table, the store's state, and how many keys were lost
   abbrev pub run : ℕ → Table → store.State → Table × store.State × ℕ
   run zero t v = (t, v, 0)
-  run (suc b) t v = elim (over t.place) [ true ↦ (t, v, 0) | false ↦ run_on (run b) t (step t.voices t.rows t.place v) ]
+  run (suc b) t v = run_by (run b) t v (over t.place)
 
   -- ---- what a relation gives is what the function gives
 
@@ -83,22 +92,13 @@ module _ (store : Behaviour) (d : Decided store) (m : Meaning) where
       → backs rows ls v ≡ record { place = p; state = w; exhausts = n; loses = k }
   backs_is (BacksUp.root v) = refl
   backs_is {rows} (BacksUp.next l ls v z) =
-      ap (λ (b : Bool). elim b [
-        | false ↦ record { place = going l ls; state = v; exhausts = 0; loses = 0 }
-        | true ↦ up (d.answer v (key m rows l.sets)) (backs rows ls (d.after v (key m rows l.sets)))
-      ]) z
+      ap (backs_at rows l ls v (backs rows ls)) z
   backs_is {rows} (BacksUp.keeps l ls v w u p n k z K B) =
-      ap (λ (b : Bool). elim b [
-        | false ↦ record { place = going l ls; state = v; exhausts = 0; loses = 0 }
-        | true ↦ up (d.answer v (key m rows l.sets)) (backs rows ls (d.after v (key m rows l.sets)))
-      ]) z
+      ap (backs_at rows l ls v (backs rows ls)) z
       ∙ ap₂ (λ (a : Stored) (x : store.State). up a (backs rows ls x)) (sym (d.answer_only v w (key m rows l.sets) Kept K)) (sym (d.after_only v w (key m rows l.sets) Kept K))
       ∙ ap (up Kept) (backs_is B)
   backs_is {rows} (BacksUp.loses l ls v w u p n k z K B) =
-      ap (λ (b : Bool). elim b [
-        | false ↦ record { place = going l ls; state = v; exhausts = 0; loses = 0 }
-        | true ↦ up (d.answer v (key m rows l.sets)) (backs rows ls (d.after v (key m rows l.sets)))
-      ]) z
+      ap (backs_at rows l ls v (backs rows ls)) z
       ∙ ap₂ (λ (a : Stored) (x : store.State). up a (backs rows ls x)) (sym (d.answer_only v w (key m rows l.sets) Lost K)) (sym (d.after_only v w (key m rows l.sets) Lost K))
       ∙ ap (up Lost) (backs_is B)
 
@@ -116,10 +116,10 @@ module _ (store : Behaviour) (d : Decided store) (m : Meaning) where
 
   run_over : (b : ℕ) (t : Table) (v : store.State) → over t.place ≡ true → run b t v ≡ (t, v, 0)
   run_over zero t v e = refl
-  run_over (suc b) t v e = ap (λ (x : Bool). elim x [ true ↦ (t, v, 0) | false ↦ run_on (run b) t (step t.voices t.rows t.place v) ]) e
+  run_over (suc b) t v e = ap (run_by (run b) t v) e
 
   run_more : (b : ℕ) (t : Table) (v : store.State) → over t.place ≡ false → run (suc b) t v ≡ run_on (run b) t (step t.voices t.rows t.place v)
-  run_more b t v e = ap (λ (x : Bool). elim x [ true ↦ (t, v, 0) | false ↦ run_on (run b) t (step t.voices t.rows t.place v) ]) e
+  run_more b t v e = ap (run_by (run b) t v) e
 
   run_is : {n : ℕ} {t : Table} {v : store.State} {u : Table} {w : store.State} {k : ℕ} (G : OpensNodes store m n t v u w k) → (b : ℕ) → n ≤ b
       → (over u.place ≡ true) ⊎ (n ≡ b) → run b t v ≡ (u, w, k)
