@@ -1,5 +1,5 @@
--- The cases of calls at both sides of each limit, and of calls that more than one refusal fits, each of which the checker
--- computes; and of histories that reach the limits of a table.
+-- The cases of calls at both sides of each limit, and of calls that more than one refusal fits,
+-- each of which the checker computes; and of histories that reach the limits of a table.
 use Rattle.std.specs.Prelude.{◌≡◌, ℕ, List, [], ◌∷◌, ◌++◌, length, replicate, All}
 use Rattle.rows.specs.Rows.{RowData}
 use Rattle.rows.specs.Bytes.{decode, total_bytes}
@@ -15,7 +15,8 @@ use Rattle.cases.specs.SearchCases.{SearchCase, calls_over, SearchCaseHolds}
 
 -- ---- what a case says
 
--- the judgement of this call to this table of the bank A; how many bytes these rows have together; how long these bytes are
+-- the judgement of this call to this table of the bank A; how many bytes these rows have together;
+-- how long these bytes are
 pub data CallCase : Type 0 where
   judgement_of : Table → Call → Judgement → CallCase
   bytes_of : List RowData → ℕ → CallCase
@@ -39,7 +40,8 @@ with_short_rows n = begun (6 ∷ []) (replicate n (decode differing (first_diffe
 
 -- 32 voices; 62 rows of 130 bytes, and so many that say that the first k voices differ
 abbrev pub long_rows : ℕ → ℕ → List RowData
-long_rows n k = replicate 62 (decode differing (first_differ 32)) ++ replicate n (decode differing (first_differ k))
+long_rows n k =
+    replicate 62 (decode differing (first_differ 32)) ++ replicate n (decode differing (first_differ k))
 
 abbrev pub with_long_rows : ℕ → ℕ → Table
 with_long_rows n k = begun (replicate 32 6) (long_rows n k)
@@ -122,7 +124,8 @@ refusals =
     ∷ judgement_of (with_voices 1) (post (one_member_row 0 1 0)) (declined 9)
     ∷ judgement_of (with_voices 1) (post (one_member_row 0 0xFF 0xFF)) (declined 9)
     ∷ judgement_of (with_voices 1) (post voice_twice) (declined 9)
-    -- a voice that is not declared goes before a rule that is broken, and before the limits, and that rule before the limits
+    -- a voice that is not declared goes before a rule that is broken, and before the limits, and
+    -- that rule before the limits
     ∷ judgement_of (with_voices 1) (post (one_member_row 1 1 0)) (declined 8)
     ∷ judgement_of empty (post voice_twice) (declined 8)
     ∷ judgement_of (with_short_rows 120) (post (one_member_row 1 0 0)) (declined 8)

@@ -10,9 +10,9 @@ use Rattle.cases.specs.CaseRows.{differing}
 use Rattle.cases.specs.Tables.{CaseStore}
 use Rattle.cases.specs.Tables.CaseStore.{shelf_of, bare}
 
--- calls over a store, of rows of a bank, each with its answer, the newest first; and what is to come
--- of them: the table, how many keys the store has lost since it was emptied, and the keys that it
--- then holds
+-- calls over a store, of rows of a bank, each with its answer, the newest first; and what is to
+-- come of them: the table, how many keys the store has lost since it was emptied, and the keys that
+-- it then holds
 pub record SearchCase : Type 0 where
   pub store : CaseStore
   pub bank : Meaning

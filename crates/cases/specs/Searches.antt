@@ -1,6 +1,6 @@
 -- Searches from Make on, each of which the checker computes. A set is written as a number: {1,2} is
--- 6, {1,3} is 10, {3,4} is 24. The newest call stands first; the last two numbers of a table are the
--- nodes opened and those exhausted, and the number behind it is how many keys were lost.
+-- 6, {1,3} is 10, {3,4} is 24. The newest call comes first; the last two numbers of a table are
+-- the nodes opened and those exhausted, and the number behind it is how many keys were lost.
 use Rattle.std.specs.Prelude.{ℕ, List, [], ◌∷◌, All}
 use Rattle.search.specs.Search.{Level, Place}
 use Rattle.search.specs.Search.Place.{fresh, going}
@@ -15,10 +15,12 @@ use Rattle.cases.specs.SearchCases.{SearchCase, calls_over, SearchCaseHolds}
 -- ---- three voices {1,2} that differ
 
 abbrev pub three_posted : List (Call × Answer)
-three_posted = (post (first_differ 3), done) ∷ (declare 6, done) ∷ (declare 6, done) ∷ (declare 6, done) ∷ []
+three_posted =
+    (post (first_differ 3), done) ∷ (declare 6, done) ∷ (declare 6, done) ∷ (declare 6, done) ∷ []
 
 abbrev pub three_at : Place → ℕ → ℕ → Table
-three_at place opened exhausted = table_with (6 ∷ 6 ∷ 6 ∷ []) (differs_3 ∷ []) place opened exhausted
+three_at place opened exhausted =
+    table_with (6 ∷ 6 ∷ 6 ∷ []) (differs_3 ∷ []) place opened exhausted
 
 -- the root, with its value 2 left to try
 abbrev pub three_root : Level
@@ -27,10 +29,13 @@ three_root = record { sets = 6 ∷ 6 ∷ 6 ∷ []; voice = 0; left = 4 }
 -- ---- {1,2} {1,2} {3,4} {3,4} {3,4} that differ
 
 abbrev pub five_posted : List (Call × Answer)
-five_posted = (post (first_differ 5), done) ∷ (declare 24, done) ∷ (declare 24, done) ∷ (declare 24, done) ∷ (declare 6, done) ∷ (declare 6, done) ∷ []
+five_posted =
+    (post (first_differ 5), done)
+    ∷ (declare 24, done) ∷ (declare 24, done) ∷ (declare 24, done) ∷ (declare 6, done) ∷ (declare 6, done) ∷ []
 
 abbrev pub five_at : Place → ℕ → ℕ → Table
-five_at place opened exhausted = table_with (6 ∷ 6 ∷ 24 ∷ 24 ∷ 24 ∷ []) (differs_5 ∷ []) place opened exhausted
+five_at place opened exhausted =
+    table_with (6 ∷ 6 ∷ 24 ∷ 24 ∷ 24 ∷ []) (differs_5 ∷ []) place opened exhausted
 
 -- ---- {1,3} {1,3} that differ
 
@@ -38,9 +43,11 @@ abbrev pub two_posted : List (Call × Answer)
 two_posted = (post (first_differ 2), done) ∷ (declare 10, done) ∷ (declare 10, done) ∷ []
 
 abbrev pub two_at : Place → ℕ → ℕ → Table
-two_at place opened exhausted = table_with (10 ∷ 10 ∷ []) (differs_2 ∷ []) place opened exhausted
+two_at place opened exhausted =
+    table_with (10 ∷ 10 ∷ []) (differs_2 ∷ []) place opened exhausted
 
--- solved with 1 node, read too early, solved, solved again, read into a buffer that is too short and into a longer one
+-- solved with 1 node, read too early, solved, solved again, read into a buffer that is too short
+-- and into a longer one
 abbrev pub two_read : List (Call × Answer)
 two_read =
     (read (7 ∷ 8 ∷ 9 ∷ []), wrote 2 (1 ∷ 3 ∷ 9 ∷ []))
@@ -51,8 +58,10 @@ two_read =
     ∷ (solve 1, stopped)
     ∷ two_posted
 
--- ---- keys: a word for each voice, 0 where it is fixed, then the row's mark, 1 as it is open, and the values that its fixed voices have
+-- ---- keys
 
+-- Of three voices. A key has a word for each voice, 0 where it is fixed; then the row's mark, 1 as it
+-- is open, and the values that its fixed voices have.
 abbrev pub three_key : List ℕ
 three_key = 6 ∷ 6 ∷ 6 ∷ 1 ∷ 0 ∷ []
 
@@ -67,13 +76,15 @@ root_key = 6 ∷ 6 ∷ 24 ∷ 24 ∷ 24 ∷ 1 ∷ 0 ∷ []
 
 abbrev pub searches : List SearchCase
 searches =
-    -- three voices have no room at two values: over a large shelf, and over the bare store
+    -- three voices cannot differ with two values: over a large shelf, and over the bare store
     calls_over large ((solve 9, none) ∷ three_posted) (three_at Place.none 3 1) 0 (three_key ∷ [])
     ∷ calls_over bare ((solve 9, none) ∷ three_posted) (three_at Place.none 3 1) 1 []
-    -- a budget of just as many nodes ends the search; one of 2 stops after the first child, and 1 more ends it with the same counts
+    -- a budget of just as many nodes ends the search; one of 2 stops after the first child, and 1
+    -- more ends it with the same counts
     ∷ calls_over large ((solve 3, none) ∷ three_posted) (three_at Place.none 3 1) 0 (three_key ∷ [])
     ∷ calls_over large ((solve 2, stopped) ∷ three_posted) (three_at (going three_root []) 2 0) 0 []
-    ∷ calls_over large ((solve 1, none) ∷ (solve 2, stopped) ∷ three_posted) (three_at Place.none 3 1) 0 (three_key ∷ [])
+    ∷ calls_over large ((solve 1, none) ∷ (solve 2, stopped) ∷ three_posted) (three_at Place.none 3 1) 0
+    (three_key ∷ [])
     -- both children of the root have one key: a store that holds it saves the search of the second
     ∷ calls_over large ((solve 9, none) ∷ five_posted) (five_at Place.none 5 2) 0 (child_key ∷ root_key ∷ [])
     ∷ calls_over bare ((solve 9, none) ∷ five_posted) (five_at Place.none 7 3) 3 []
@@ -87,14 +98,15 @@ searches =
     -- the least placing of two voices: over a large shelf, and over the bare store
     ∷ calls_over large ((solve 9, found (1 ∷ 3 ∷ [])) ∷ two_posted) (two_at (Place.found (1 ∷ 3 ∷ [])) 2 0) 0 []
     ∷ calls_over bare ((solve 9, found (1 ∷ 3 ∷ [])) ∷ two_posted) (two_at (Place.found (1 ∷ 3 ∷ [])) 2 0) 0 []
-    -- it is told again and read with no node more, and a declined call alters nothing
+    -- it is found again and read with no further node, and a declined call changes nothing
     ∷ calls_over large two_read (two_at (Place.found (1 ∷ 3 ∷ [])) 2 0) 0 []
     ∷ calls_over large ((declare 0, refused 10) ∷ two_read) (two_at (Place.found (1 ∷ 3 ∷ [])) 2 0) 0 []
-    -- another voice, and a wipe, begin again
+    -- another voice begins the search again, and so does a wipe
     ∷ calls_over large ((declare 6, done) ∷ two_read) (table_with (10 ∷ 10 ∷ 6 ∷ []) (differs_2 ∷ []) fresh 0 0) 0 []
     ∷ calls_over large ((wipe, done) ∷ two_read) (table_with [] [] fresh 0 0) 0 []
-    -- a row more begins the search again and empties the store
-    ∷ calls_over large ((post (first_differ 2), done) ∷ (solve 9, none) ∷ five_posted) (table_with (6 ∷ 6 ∷ 24 ∷ 24 ∷ 24 ∷ []) (differs_5 ∷ differs_2 ∷ []) fresh 0 0) 0 []
+    -- another row begins the search again and empties the store
+    ∷ calls_over large ((post (first_differ 2), done) ∷ (solve 9, none) ∷ five_posted)
+    (table_with (6 ∷ 6 ∷ 24 ∷ 24 ∷ 24 ∷ []) (differs_5 ∷ differs_2 ∷ []) fresh 0 0) 0 []
     ∷ []
 
 -- Each case holds.

@@ -6,7 +6,8 @@ use Rattle.search.specs.Calls.{Table}
 
 -- ---- stores
 
--- the store that calls are made over: a shelf that may use so many words, or the bare store, which loses every key
+-- the store that calls are made over: a shelf that may use so many words, or the bare store, which
+-- loses every key
 pub data CaseStore : Type 0 where
   shelf_of : ℕ → CaseStore
   bare : CaseStore
@@ -28,7 +29,8 @@ first_differ n = 0x41 ∷ n ∷ members_from 0 n
 
 -- ---- tables
 
--- with these voices and rows, the place that the search has reached, and the nodes opened and exhausted
+-- with these voices and rows, the place that the search has reached, and the nodes opened and
+-- exhausted
 abbrev pub table_with : List ℕ → List RowData → Place → ℕ → ℕ → Table
 table_with voices rows place opened exhausted =
     record { voices = voices; rows = rows; place = place; opened = opened; exhausted = exhausted }

@@ -1,5 +1,5 @@
--- The cases of turns, traces and acceptance, each of which the checker computes. A set is written as a number: {1} is 2,
--- {1,2} is 6, {2,3} is 12.
+-- The cases of turns, traces and acceptance, each of which the checker computes. A set is written
+-- as a number: {1} is 2, {1,2} is 6, {2,3} is 12.
 use Rattle.std.specs.Prelude.{◌≡◌, ℕ, List, [], ◌∷◌, pos, negsuc, Ok, Err, All}
 use Rattle.rows.specs.declared.refusal.KindRefusal.TheVariants.{Undeclared, RuleBroken}
 use Rattle.rows.specs.declared.trace.Trace.{Trace}
@@ -10,8 +10,8 @@ use Rattle.cases.specs.CaseRows.{differing, sums, clauses, elements, differs_2, 
 
 -- ---- what a case says
 
--- For a bank and a row: the sets that a turn on these sets leaves, the trace on these sets, or the verdict with so many
--- voices.
+-- For a bank and a row: the sets that a turn on these sets leaves, the trace on these sets, or the
+-- verdict with so many voices.
 pub data TurnCase : Type 0 where
   turn_of : Meaning → RowData → List ℕ → List ℕ → TurnCase
   trace_of : Meaning → RowData → List ℕ → Trace → TurnCase
@@ -50,7 +50,8 @@ turns =
     ∷ turn_of sums sum_5 (8 ∷ 16 ∷ 32 ∷ 7 ∷ 7 ∷ []) (8 ∷ 16 ∷ 32 ∷ 7 ∷ 7 ∷ [])
     -- a turn with coefficients below 0
     ∷ turn_of sums sum_2 (3 ∷ 3 ∷ []) (2 ∷ 2 ∷ [])
-    -- a voice that is there twice; the turn is judged by the sets at its start, so voice 1 keeps both values until the next turn
+    -- a voice that is there twice; the turn is judged by the sets at its start, so voice 1 keeps
+    -- both values until the next turn
     ∷ turn_of sums sum_twice (15 ∷ 3 ∷ []) (4 ∷ 3 ∷ [])
     -- its trace: the sum of the fixed voices, 16, and 4,000,000
     ∷ trace_of sums sum_5 (8 ∷ 16 ∷ 32 ∷ 7 ∷ 7 ∷ []) (Open 4000016)
@@ -83,7 +84,8 @@ turns =
     ∷ verdict_of clauses (literal (pos 127)) 1 (Ok tt)
     ∷ verdict_of clauses (literal (pos 128)) 1 (Err RuleBroken)
     ∷ verdict_of clauses (literal (negsuc 0)) 1 (Err RuleBroken)
-    -- element, a turn: the second step starts from what the first leaves, also where index and result are one voice
+    -- element, a turn: the second step starts from what the first leaves, also where index and
+    -- result are one voice
     ∷ turn_of elements entries (15 ∷ 48 ∷ []) (5 ∷ 16 ∷ [])
     ∷ turn_of elements entries_of_itself (3 ∷ []) (0 ∷ [])
     -- its trace: the result is fixed, at 4

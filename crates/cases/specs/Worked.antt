@@ -1,4 +1,5 @@
--- The worked cases, all together: those of single turns, traces and verdicts, and those of whole searches.
+-- The worked cases, all together: those of single turns, traces and verdicts, and those of whole
+-- searches.
 use Rattle.cases.specs.Turns.{TurnsHold}
 use Rattle.cases.specs.Searches.{SearchesHold}
 

@@ -1,5 +1,5 @@
--- The premises of the laws of a kind are needed: without its premise each of these laws is false of the loose kind.
--- (That its turn only narrows is true of it everywhere.)
+-- The premises of the laws of a kind are needed: without its premise each of these laws is false of
+-- the loose kind. (That its turn only narrows is true of it everywhere.)
 use Rattle.std.specs.Prelude.{◌≡◌, ℕ, false, List, ◌++◌, length, Ok}
 use Rattle.sets.specs.Placings.{changed, Proper}
 use Rattle.rows.specs.Rows.{alone, RowData}

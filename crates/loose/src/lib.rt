@@ -18,8 +18,8 @@ ghost use Rattle.search.specs.Calls.{Call};
 ghost use Rattle.table.specs.Shown.{found_in, CallDone, solve_answer};
 
 use rows::bank::Alone;
-use rows::refusal::KindRefusal;
 use rows::kind::Kind;
+use rows::refusal::KindRefusal;
 use rows::row::Row;
 use rows::trace::Trace;
 use search::propagation::has_empty;
