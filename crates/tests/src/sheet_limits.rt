@@ -172,7 +172,7 @@ fn at_limits(rt: HostRuntime) -> Result<(), Fail> {
 fn largest_sheet(rt: &HostRuntime) -> Result<Vec<u8>, RowError> {
     let mut bytes = sheet(rt, 80, 68, 17, b"")?;
     push_clauses(rt.alloc(), &mut bytes, 52, 16)?;
-    bytes.push(b'Z')?;
+    bytes.extend_from_slice(b"Z")?;
     Ok(bytes)
 }
 
