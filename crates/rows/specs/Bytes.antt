@@ -1,10 +1,10 @@
 -- A row as bytes: its letter; its body, whose first byte is the number of members; and for each member hex 4D, its voice, and its argument, a signed
 -- number of 16 bits, low byte first.
-use Rattle.std.specs.Prelude.{◌≡◌, ℕ, suc, ◌+◌, ◌*◌, ◌/◌, ◌%◌, ◌<◌, Bool, true, ◌&&◌, List, [], ◌∷◌, ◌++◌, length, take, drop, FitsSigned, ◌==◌, nat_le, nat_lt, slice_index}
+use Rattle.std.specs.Prelude.{◌≡◌, ℕ, suc, ◌+◌, ◌*◌, ◌/◌, ◌%◌, ◌<◌, Bool, true, ◌&&◌, List, [], ◌∷◌, ◌++◌, length, take, drop, FitsSigned, ◌==◌, nat_lt, slice_index}
 use Rattle.std.specs.Int.{w16}
 use Rattle.std.proofs.Common.{to_z, of_z}
 use Rattle.rows.specs.declared.member.Member.{Member}
-use Rattle.rows.specs.Rows.{RowData, Meaning}
+use Rattle.rows.specs.Rows.{RowData, Meaning, allowed_count}
 use Rattle.rows.specs.Laws.{Shaped}
 
 -- every number of the list is a byte
@@ -31,7 +31,7 @@ lettered m bs = nat_lt 0 (length bs) && m.known (letter_byte bs)
 
 -- the count is there, and is 1 to 32
 abbrev pub counted : List ℕ → Bool
-counted bs = nat_lt 1 (length bs) && (nat_le 1 (count_byte bs) && nat_le (count_byte bs) 32)
+counted bs = nat_lt 1 (length bs) && allowed_count (count_byte bs)
 
 -- the bytes are as many as the letter and the count ask for
 abbrev pub right_length : Meaning → List ℕ → Bool

@@ -2,7 +2,7 @@
 use Rattle.std.specs.Prelude.{◌≡◌, ℕ, ◌+◌, ◌≤◌, Bool, true, false, ◌||◌, List, ◌++◌, length, Ok, ◌==◌, slice_index}
 use Rattle.sets.specs.Sets.{fixed}
 use Rattle.sets.specs.Placings.{some_empty, all_fixed, values, Proper, Placing, Within, Narrower}
-use Rattle.rows.specs.Rows.{RowData, Meaning, count}
+use Rattle.rows.specs.Rows.{RowData, KindMeaning, Meaning, alone, count}
 
 -- a letter that no kind may have: a sheet's V and Z, and a member's M
 abbrev pub barred : ℕ → Bool
@@ -26,6 +26,10 @@ pub record Shaped (m : Meaning) (r : RowData) : Type 0 where
 pub record Accepted (m : Meaning) (r : RowData) (n : ℕ) : Type 0 where
   pub shape : Shaped m r
   pub yes : m.accepts r n ≡ Ok tt
+
+-- the kind accepts the row in a table of as many voices as there are sets
+abbrev pub AcceptedFor : KindMeaning → RowData → List ℕ → Type 0
+AcceptedFor k r s = Accepted (alone k) r (length s)
 
 -- two lists of sets with the same fixed voices, at values that may differ, and equal sets elsewhere
 pub record Alike (s t : List ℕ) : Type 0 where

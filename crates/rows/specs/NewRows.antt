@@ -1,19 +1,15 @@
 -- What the constructors of rows return.
-use Rattle.std.specs.Prelude.{◌≡◌, ℕ, Bool, true, ◌&&◌, length, is_ok, Ok, Err, Result, nat_le}
+use Rattle.std.specs.Prelude.{◌≡◌, ℕ, true, length, is_ok, Ok, Err, Result}
 use Rattle.rows.specs.declared.row.Row.{Row}
 use Rattle.rows.specs.declared.row.RowError.{RowError}
 use Rattle.rows.specs.declared.row.RowError.TheVariants.{MemberCount, LargeValue, OutOfMemory}
-use Rattle.rows.specs.Rows.{RowData}
+use Rattle.rows.specs.Rows.{RowData, allowed_count}
 use Rattle.rows.specs.Reading.{checked}
 use Rattle.rows.specs.Views.{row_of}
 
--- a row has so many members
-abbrev pub few : ℕ → Bool
-few n = nat_le 1 n && nat_le n 32
-
 -- the row, where it has 1 to 32 members
-abbrev pub if_few : RowData → Result RowData RowError
-if_few r = checked (few (length r.members)) MemberCount (Ok r)
+abbrev pub if_counted : RowData → Result RowData RowError
+if_counted r = checked (allowed_count (length r.members)) MemberCount (Ok r)
 
 -- A constructor's result is this row, or this error; where there is such a row, memory may be missing.
 abbrev pub Constructs : Result RowData RowError → Result Row RowError → Type 0
@@ -23,5 +19,5 @@ Constructs wanted (Err LargeValue) = wanted ≡ Err LargeValue
 Constructs wanted (Err OutOfMemory) = is_ok wanted ≡ true
 
 -- the same of a row whose members are still to come, so many
-abbrev pub Counted : ℕ → RowData → Result Row RowError → Type 0
-Counted count r result = Constructs (checked (few count) MemberCount (Ok r)) result
+abbrev pub Begins : ℕ → RowData → Result Row RowError → Type 0
+Begins count r result = Constructs (checked (allowed_count count) MemberCount (Ok r)) result

@@ -1,5 +1,5 @@
 -- What rows say, and what a kind of rows and a bank of kinds mean.
-use Rattle.std.specs.Prelude.{ℕ, Bool, cond, ◌||◌, List, Result, ◌==◌, slice_index}
+use Rattle.std.specs.Prelude.{ℕ, Bool, cond, ◌&&◌, ◌||◌, List, Result, ◌==◌, nat_le, slice_index}
 use Rattle.rows.specs.declared.refusal.KindRefusal.{KindRefusal}
 use Rattle.rows.specs.declared.member.Member.{Member}
 use Rattle.rows.specs.declared.trace.Trace.{Trace}
@@ -16,6 +16,10 @@ byte r i = slice_index r.body i
 
 abbrev pub count : RowData → ℕ
 count r = byte r 0
+
+-- a row has 1 to 32 members
+abbrev pub allowed_count : ℕ → Bool
+allowed_count n = nat_le 1 n && nat_le n 32
 
 -- asked to accept a row, a kind answers yes or a fault
 abbrev pub Verdict : Type 0

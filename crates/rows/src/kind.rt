@@ -1,8 +1,8 @@
 // What a kind of rows owes.
-ghost use Rattle.std.specs.Prelude.{◌≡◌, ℕ, length};
+ghost use Rattle.std.specs.Prelude.{◌≡◌, ℕ};
 ghost use Rattle.sets.specs.Placings.{changed, Proper};
 ghost use Rattle.rows.specs.Rows.{KindMeaning, alone};
-ghost use Rattle.rows.specs.Laws.{Laws, Accepted};
+ghost use Rattle.rows.specs.Laws.{Laws, AcceptedFor};
 ghost use Rattle.rows.specs.Views.{row_of};
 
 use crate::refusal::KindRefusal;
@@ -39,7 +39,7 @@ pub trait Kind {
     // Takes values out of the sets that no placing needs for which the row holds; and where the row is accepted and no set is empty, it says whether it took one.
     fn turn(row: &Row, sets: &mut [ValueSet]) -> bool
         ensures after { sets.new ≡ meaning.turn (row_of row.now) sets.old }
-        ensures value { Accepted (alone meaning) (row_of row.now) (length sets.old) → Proper sets.old → result ≡ changed sets.new sets.old };
+        ensures value { AcceptedFor meaning (row_of row.now) sets.old → Proper sets.old → result ≡ changed sets.new sets.old };
 
     // What the fixed voices leave of the row.
     fn trace(row: &Row, sets: &[ValueSet]) -> Trace
