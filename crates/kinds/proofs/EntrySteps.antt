@@ -9,7 +9,7 @@ use Rattle.rows.specs.Rows.{RowData}
 use Rattle.rows.specs.declared.member.Member.{Member}
 use Rattle.sets.specs.Placings.{changed, Narrower}
 use Rattle.sets.specs.Sets.{has, least, only, mask, sift}
-use Rattle.kinds.specs.Entries.{index, result_voice, entry, reached, indexed, resulted}
+use Rattle.kinds.specs.Entries.{index, result_voice, entry, reached, narrow_index, narrow_result}
 use Rattle.rows.specs.Shared.{cut}
 use Rattle.sets.proofs.Membership.{same_sets, has_none, has_above, has_below, has_least, has_less, has_only, only_pos, none_zero, mask_below, has_mask, has_sift, sift_below}
 use Rattle.sets.proofs.Masks.{mask_is, has_or, only_mask}
@@ -274,13 +274,13 @@ index_after i f s = elim (cases_lt i (length s)) [
     ])
 
 pub index_cut : (r : RowData) (s : List ℕ) (x xs ys kept : ℕ) → x ≡ index r → xs ≡ get_or s x 0 → ys ≡ get_or s (result_voice r) 0
-    → kept ≡ sift (matches r.members ys) xs → cut x (has kept) s ≡ indexed r s
+    → kept ≡ sift (matches r.members ys) xs → cut x (has kept) s ≡ narrow_index r s
 index_cut r s x xs ys kept a b c e =
     ap (λ k. cut x (has k) s) (e ∙ ap (sift (matches r.members ys)) b) ∙ cut_sift x (matches r.members ys) s
     ∙ ap₂ (λ i y. cut i (matches r.members y) s) a c
 
 pub result_cut : (r : RowData) (s u : List ℕ) (x y xs ys kept named : ℕ) → x ≡ index r → y ≡ result_voice r → xs ≡ get_or s x 0 → ys ≡ get_or s (result_voice r) 0
-    → kept ≡ sift (matches r.members ys) xs → named ≡ mask 64 (reached r.members (has kept)) → u ≡ indexed r s → cut y (has named) u ≡ resulted r u
+    → kept ≡ sift (matches r.members ys) xs → named ≡ mask 64 (reached r.members (has kept)) → u ≡ narrow_index r s → cut y (has named) u ≡ narrow_result r u
 result_cut r s u x y xs ys kept named a b c d e g k =
     let same : kept ≡ get_or u (index r) 0 = e ∙ ap₂ (λ v w. sift (matches r.members v) w) d (c ∙ ap (λ i. get_or s i 0) a)
     ∙ sym (ap (λ l. get_or l (index r) 0) k ∙ index_after (index r) (matches r.members (get_or s (result_voice r) 0)) s)
@@ -288,7 +288,7 @@ result_cut r s u x y xs ys kept named a b c d e g k =
     cut_same y (has named) (reached r.members (has kept)) u (λ v l. ap (λ z. has z v) g ∙ has_mask 64 (reached r.members (has kept)) v l)
     ∙ ap₂ (λ i z. cut i (reached r.members (has z)) u) b same
 
-pub both_steps : (r : RowData) (t u s : List ℕ) → Small s → u ≡ indexed r s → t ≡ resulted r u → (changed u s || changed t u) ≡ changed t s
+pub both_steps : (r : RowData) (t u s : List ℕ) → Small s → u ≡ narrow_index r s → t ≡ narrow_result r u → (changed u s || changed t u) ≡ changed t s
 both_steps r t u s h a b =
     changed_then t u s (subst Small (sym a) (cut_small (index r) (λ i. ltb i (length r.members) && has (get_or s (result_voice r) 0) (entry r.members i)) s h)) h
     (subst (λ (x : List ℕ). Narrower x u) (sym b) (cut_narrower (result_voice r) (reached r.members (has (get_or u (index r) 0))) u))

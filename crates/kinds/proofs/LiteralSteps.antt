@@ -7,7 +7,7 @@ use Rattle.std.proofs.lemmas.List.{take_rest}
 use Rattle.std.proofs.lemmas.List.Quantifiers.{position-Some}
 use Rattle.rows.specs.declared.member.Member.{Member}
 use Rattle.sets.specs.Sets.{has, mask, sift}
-use Rattle.kinds.specs.Literals.{says, refuted, stands, units}
+use Rattle.kinds.specs.Literals.{literal_holds, refuted, may_hold, units}
 use Rattle.rows.specs.Shared.{cut, cuts}
 use Rattle.sets.proofs.Masks.{mask_is, has_not, and_sift, and_not_sift}
 use Rattle.rows.proofs.Masked.{members_of, masked_below}
@@ -16,12 +16,12 @@ use Rattle.rows.proofs.Narrowed.{cut_same}
 -- ---- masks
 
 -- from 64 on, all values but one
-pub true_values_but : (m : Member) (a s : ℕ) → a ≡ nat_abs m.argument → 64 ≤ a → s ≡ mask 64 (λ v. eqb v (a - 64)) → 2 ^ 64 - 1 - s ≡ mask 64 (says m)
+pub true_values_but : (m : Member) (a s : ℕ) → a ≡ nat_abs m.argument → 64 ≤ a → s ≡ mask 64 (λ v. eqb v (a - 64)) → 2 ^ 64 - 1 - s ≡ mask 64 (literal_holds m)
 true_values_but m a s e h k =
     let small : s < 2 ^ 64 = masked_below s (λ v. eqb v (a - 64)) k in
-    mask_is (2 ^ 64 - 1 - s) (says m) (omega arith) (λ v l. has_not 64 s v small l ∙ ap not (members_of s (λ w. eqb w (a - 64)) k v l) ∙ said v)
+    mask_is (2 ^ 64 - 1 - s) (literal_holds m) (omega arith) (λ v l. has_not 64 s v small l ∙ ap not (members_of s (λ w. eqb w (a - 64)) k v l) ∙ said v)
   where
-    said : (v : ℕ) → not (eqb v (a - 64)) ≡ says m v
+    said : (v : ℕ) → not (eqb v (a - 64)) ≡ literal_holds m v
     said v = ap (λ (x : ℕ). not (eqb v (x - 64))) e ∙ sym (ap (λ b. cond b (eqb v (nat_abs m.argument)) (not (eqb v (nat_abs m.argument - 64)))) (le-ltb (nat_abs m.argument) 64 (omega arith)))
 
 -- no value of a set passes, by the mask of those that pass, and by that of those that do not
@@ -81,30 +81,30 @@ units_two g m (x ∷ l) ms s e = go (units_two g m l ms s) (g x) refl
 
 -- ---- the turn
 
--- no literal stands
-pub none_unit : (ms : List Member) (s : List ℕ) → None ≡ position (stands s) ms → cuts (λ _ _. false) (take 1 ms) s ≡ units (filter (stands s) ms) ms s
-none_unit ms s e = ap (λ (l : List Member). units l ms s) (sym (none_chosen (stands s) ms (sym e)))
+-- no literal may hold
+pub none_unit : (ms : List Member) (s : List ℕ) → None ≡ position (may_hold s) ms → cuts (λ _ _. false) (take 1 ms) s ≡ units (filter (may_hold s) ms) ms s
+none_unit ms s e = ap (λ (l : List Member). units l ms s) (sym (none_chosen (may_hold s) ms (sym e)))
 
 -- the literals that stand, from the first on
-from_first : (ms : List Member) (d : Member) (s : List ℕ) (i : ℕ) → Some i ≡ position (stands s) ms
-    → filter (stands s) ms ≡ get_or ms i d ∷ filter (stands s) (drop (i + 1) ms)
+from_first : (ms : List Member) (d : Member) (s : List ℕ) (i : ℕ) → Some i ≡ position (may_hold s) ms
+    → filter (may_hold s) ms ≡ get_or ms i d ∷ filter (may_hold s) (drop (i + 1) ms)
 from_first ms d s i e =
-    let p = position-Some (stands s) ms i d (sym e) in
+    let p = position-Some (may_hold s) ms i d (sym e) in
     let next : suc i ≡ i + 1 = omega arith in
-    filter_from (stands s) ms i d p.0 p.1 p.2 ∙ ap (λ (n : ℕ). get_or ms i d ∷ filter (stands s) (drop n ms)) next
+    filter_from (may_hold s) ms i d p.0 p.1 p.2 ∙ ap (λ (n : ℕ). get_or ms i d ∷ filter (may_hold s) (drop n ms)) next
 
--- one stands and no more after it
-pub one_unit : (ms : List Member) (d : Member) (s : List ℕ) (i t : ℕ) (b : Bool) → Some i ≡ position (stands s) ms
-    → b ≡ list_all (refuted s) (take (length ms - (i + 1)) (drop (i + 1) ms)) → b ≡ true → t ≡ mask 64 (says (get_or ms i d))
-    → cut (get_or ms i d).voice (has t) s ≡ units (filter (stands s) ms) ms s
+-- one may hold and no more after it
+pub one_unit : (ms : List Member) (d : Member) (s : List ℕ) (i t : ℕ) (b : Bool) → Some i ≡ position (may_hold s) ms
+    → b ≡ list_all (refuted s) (take (length ms - (i + 1)) (drop (i + 1) ms)) → b ≡ true → t ≡ mask 64 (literal_holds (get_or ms i d))
+    → cut (get_or ms i d).voice (has t) s ≡ units (filter (may_hold s) ms) ms s
 one_unit ms d s i t b e r k c =
-    cut_same (get_or ms i d).voice (has t) (says (get_or ms i d)) s (members_of t (says (get_or ms i d)) c)
+    cut_same (get_or ms i d).voice (has t) (literal_holds (get_or ms i d)) s (members_of t (literal_holds (get_or ms i d)) c)
     ∙ ap (λ (l : List Member). units (get_or ms i d ∷ l) ms s) (sym (filter_none (refuted s) (drop (i + 1) ms) (sym (ap (list_all (refuted s)) (take_rest ms (i + 1))) ∙ sym r ∙ k)))
     ∙ ap (λ (l : List Member). units l ms s) (sym (from_first ms d s i e))
 
--- another stands after the first
-pub several_unit : (ms : List Member) (d : Member) (s : List ℕ) (i : ℕ) (b : Bool) → Some i ≡ position (stands s) ms
-    → b ≡ list_all (refuted s) (take (length ms - (i + 1)) (drop (i + 1) ms)) → b ≡ false → s ≡ units (filter (stands s) ms) ms s
+-- another may hold after the first
+pub several_unit : (ms : List Member) (d : Member) (s : List ℕ) (i : ℕ) (b : Bool) → Some i ≡ position (may_hold s) ms
+    → b ≡ list_all (refuted s) (take (length ms - (i + 1)) (drop (i + 1) ms)) → b ≡ false → s ≡ units (filter (may_hold s) ms) ms s
 several_unit ms d s i b e r k =
     sym (units_two (refuted s) (get_or ms i d) (drop (i + 1) ms) ms s (sym (ap (list_all (refuted s)) (take_rest ms (i + 1))) ∙ sym r ∙ k))
     ∙ ap (λ (l : List Member). units l ms s) (sym (from_first ms d s i e))

@@ -14,8 +14,8 @@ use Rattle.rows.specs.Shared.{at, cuts}
 use Rattle.rows.proofs.Cuts.{Each, Small, narrower_refl}
 use Rattle.rows.proofs.Narrowed.{cuts_kept}
 use Rattle.rows.proofs.Scans.{nobody}
-use Rattle.kinds.specs.Differing.{spares, takes, used}
-use Rattle.kinds.specs.DifferingLaws.{takes_small, takes_narrower}
+use Rattle.kinds.specs.Differing.{may_stay, values_taken, fixed_values}
+use Rattle.kinds.specs.DifferingLaws.{taken_small, taken_narrower}
 use Rattle.kinds.proofs.Taking.{takes_more_one, open_takes_none}
 
 or_none : (b : Bool) → (b || false) ≡ b
@@ -112,15 +112,15 @@ no_common a b v e p q = both_ways true (sym (has_and a b v ∙ ap₂ ◌&&◌ p 
 
 -- s are the sets that the shared values are of, u those by then
 pub takes_none : (ms : List Member) (i shared : ℕ) (s u : List ℕ) → Small u → Narrower u s → i < length ms → shared ≡ mask 64 (λ v. ltb 1 (holders ms s v))
-    → (fixed (at u (get_or ms i nobody)) ≡ true → bit_and (at u (get_or ms i nobody)) shared ≡ 0) → cuts (spares (get_or ms i nobody) (at u (get_or ms i nobody))) ms u ≡ u
+    → (fixed (at u (get_or ms i nobody)) ≡ true → bit_and (at u (get_or ms i nobody)) shared ≡ 0) → cuts (may_stay (get_or ms i nobody) (at u (get_or ms i nobody))) ms u ≡ u
 takes_none ms i shared s u h w l k z = elim (cases_Bool (fixed (at u (get_or ms i nobody)))) [
   | inr f ↦ open_takes_none (get_or ms i nobody) (at u (get_or ms i nobody)) ms u h f
-  | inl f ↦ cuts_kept (spares (get_or ms i nobody) (at u (get_or ms i nobody))) ms u h
-      (each_place (λ n. (v : ℕ) → has (at u n) v ≡ true → spares (get_or ms i nobody) (at u (get_or ms i nobody)) n v ≡ true) ms (λ j b v e. one j b v e f))
+  | inl f ↦ cuts_kept (may_stay (get_or ms i nobody) (at u (get_or ms i nobody))) ms u h
+      (each_place (λ n. (v : ℕ) → has (at u n) v ≡ true → may_stay (get_or ms i nobody) (at u (get_or ms i nobody)) n v ≡ true) ms (λ j b v e. one j b v e f))
 ]
   where
     one : (j : ℕ) → j < length ms → (v : ℕ) → has (at u (get_or ms j nobody)) v ≡ true → fixed (at u (get_or ms i nobody)) ≡ true
-        → spares (get_or ms i nobody) (at u (get_or ms i nobody)) (get_or ms j nobody) v ≡ true
+        → may_stay (get_or ms i nobody) (at u (get_or ms i nobody)) (get_or ms j nobody) v ≡ true
     one j b v e f =
         let m = get_or ms i nobody in
         let n = get_or ms j nobody in
@@ -134,11 +134,11 @@ takes_none ms i shared s u h w l k z = elim (cases_Bool (fixed (at u (get_or ms 
         ])
 
 -- so such a member is passed over: u are the sets by then, k is its set
-pub passed_over : (ms : List Member) (i shared k : ℕ) (s u : List ℕ) → Small s → i < length ms → shared ≡ mask 64 (λ v. ltb 1 (holders ms s v)) → u ≡ takes ms (take i ms) s
-    → k ≡ at u (get_or ms i nobody) → bit_and k shared ≡ 0 → u ≡ takes ms (take (i + 1) ms) s
+pub passed_over : (ms : List Member) (i shared k : ℕ) (s u : List ℕ) → Small s → i < length ms → shared ≡ mask 64 (λ v. ltb 1 (holders ms s v)) → u ≡ values_taken ms (take i ms) s
+    → k ≡ at u (get_or ms i nobody) → bit_and k shared ≡ 0 → u ≡ values_taken ms (take (i + 1) ms) s
 passed_over ms i shared k s u h l e a q z =
-    let small : Small u = subst Small (sym a) (takes_small ms (take i ms) s h) in
-    let narrow : Narrower u s = subst (λ x. Narrower x s) (sym a) (takes_narrower ms (take i ms) s) in
+    let small : Small u = subst Small (sym a) (taken_small ms (take i ms) s h) in
+    let narrow : Narrower u s = subst (λ x. Narrower x s) (sym a) (taken_narrower ms (take i ms) s) in
     takes_more_one ms i s u u l a (sym (takes_none ms i shared s u small narrow l e (λ _. ap (λ x. bit_and x shared) (sym q) ∙ z)))
 
 -- ---- where no fixed member's value is shared, the turn takes nothing
@@ -148,15 +148,15 @@ any_at f [] i l e = absurd (omega arith)
 any_at f (m ∷ ms) zero l e = or_left (f m) (list_any f ms) e
 any_at f (m ∷ ms) (suc i) l e = or_right (f m) (list_any f ms) (any_at f ms i (omega arith) e)
 
-placed_part : (ms : List Member) (i v : ℕ) (s : List ℕ) → Small s → i < length ms → fixed (at s (get_or ms i nobody)) ≡ true → has (at s (get_or ms i nobody)) v ≡ true → has (used ms s) v ≡ true
+placed_part : (ms : List Member) (i v : ℕ) (s : List ℕ) → Small s → i < length ms → fixed (at s (get_or ms i nobody)) ≡ true → has (at s (get_or ms i nobody)) v ≡ true → has (fixed_values ms s) v ≡ true
 placed_part ms i v s h l f e =
     let m = get_or ms i nobody in
     has_mask 64 (λ w. list_any (λ n. fixed (at s n) && eqb w (least (at s n))) ms) v (has_below 64 (at s m) v (h m.voice) e)
     ∙ any_at (λ n. fixed (at s n) && eqb v (least (at s n))) ms i l
     (and_from (fixed (at s m)) (eqb v (least (at s m))) f (eq-eqb v (least (at s m)) (fixed_member (at s m) v (h m.voice) f e)))
 
-pub stable : (ms : List Member) (shared placed : ℕ) (s : List ℕ) → Small s → shared ≡ mask 64 (λ v. ltb 1 (holders ms s v)) → placed ≡ used ms s → bit_and shared placed ≡ 0 → takes ms ms s ≡ s
-stable ms shared placed s h k p z = ap (λ l. takes ms l s) (sym (take_all (length ms) ms (le_refl (length ms)))) ∙ upto (length ms) (le_refl (length ms))
+pub stable : (ms : List Member) (shared placed : ℕ) (s : List ℕ) → Small s → shared ≡ mask 64 (λ v. ltb 1 (holders ms s v)) → placed ≡ fixed_values ms s → bit_and shared placed ≡ 0 → values_taken ms ms s ≡ s
+stable ms shared placed s h k p z = ap (λ l. values_taken ms l s) (sym (take_all (length ms) ms (le_refl (length ms)))) ∙ upto (length ms) (le_refl (length ms))
   where
     apart : (m : Member) (v : ℕ) → ((w : ℕ) → has (at s m) w ≡ true → has placed w ≡ true) → has (bit_and (at s m) shared) v ≡ false
     apart m v part = has_and (at s m) shared v ∙ elim (cases_Bool (has (at s m) v)) [
@@ -167,7 +167,7 @@ stable ms shared placed s h k p z = ap (λ l. takes ms l s) (sym (take_all (leng
       ]
     ]
 
-    upto : (i : ℕ) → i ≤ length ms → takes ms (take i ms) s ≡ s
+    upto : (i : ℕ) → i ≤ length ms → values_taken ms (take i ms) s ≡ s
     upto zero b = refl
     upto (suc i) b =
         let m = get_or ms i nobody in
@@ -176,4 +176,4 @@ stable ms shared placed s h k p z = ap (λ l. takes ms l s) (sym (take_all (leng
         (λ f. none_zero 64 (bit_and (at s m) shared) (lt_of_le_of_lt (and_le_l (at s m) shared) (h m.voice))
         (λ v. apart m v (λ w e. ap (λ x. has x w) p ∙ placed_part ms i w s h l f e)))
         in
-        ap (λ n. takes ms (take n ms) s) (sym (add-one i)) ∙ sym (takes_more_one ms i s s s l (sym (upto i (omega arith))) (sym none))
+        ap (λ n. values_taken ms (take n ms) s) (sym (add-one i)) ∙ sym (takes_more_one ms i s s s l (sym (upto i (omega arith))) (sym none))

@@ -8,13 +8,13 @@ use Rattle.rows.specs.Shared.{cuts, at, distinct, shaped, verdict, declared}
 use Rattle.rows.specs.declared.trace.Trace.TheVariants.{Settled, Open}
 
 -- the value w may stay with the member n when m, whose set is s, has its moment: m is not fixed, or n is m, or w is not m's value
-abbrev pub spares : Member → ℕ → Member → ℕ → Bool
-spares m s n w = not (fixed s) || (n.voice == m.voice || not (w == least s))
+abbrev pub may_stay : Member → ℕ → Member → ℕ → Bool
+may_stay m s n w = not (fixed s) || (n.voice == m.voice || not (w == least s))
 
 -- each member in order, if its set has one value by then, takes that value out of every other member's set
-abbrev pub takes : List Member → List Member → List ℕ → List ℕ
-takes ms [] s = s
-takes ms (m ∷ rest) s = takes ms rest (cuts (spares m (at s m)) ms s)
+abbrev pub values_taken : List Member → List Member → List ℕ → List ℕ
+values_taken ms [] s = s
+values_taken ms (m ∷ rest) s = values_taken ms rest (cuts (may_stay m (at s m)) ms s)
 
 -- the arguments are 0 and no voice repeats
 abbrev pub differing_rule : RowData → Bool
@@ -25,8 +25,8 @@ abbrev pub all_placed : List Member → List ℕ → Bool
 all_placed ms s = list_all (λ m. fixed (at s m)) ms && distinct (map (λ m. least (at s m)) ms)
 
 -- the values of the fixed members
-abbrev pub used : List Member → List ℕ → ℕ
-used ms s = mask 64 (λ v. list_any (λ m. fixed (at s m) && v == least (at s m)) ms)
+abbrev pub fixed_values : List Member → List ℕ → ℕ
+fixed_values ms s = mask 64 (λ v. list_any (λ m. fixed (at s m) && v == least (at s m)) ms)
 
 -- the row of this kind with these voices
 abbrev pub all_different_row : List ℕ → RowData
@@ -42,6 +42,6 @@ all_different = record {
   body_length = 1;
   accepts = λ r n. verdict (shaped 0x41 1 r) (declared n r) (differing_rule r);
   holds = λ r p. distinct (map (at p) r.members);
-  turn = λ r s. takes r.members r.members s;
-  trace = λ r s. cond (all_placed r.members s) Settled (Open (used r.members s));
+  turn = λ r s. values_taken r.members r.members s;
+  trace = λ r s. cond (all_placed r.members s) Settled (Open (fixed_values r.members s));
 }

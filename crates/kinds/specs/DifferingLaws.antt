@@ -5,13 +5,13 @@ use Rattle.std.proofs.Math.Path.{fun_ext}
 use Rattle.std.proofs.Math.Dec.{eqb-suc-suc}
 use Rattle.std.proofs.lemmas.List.{get_or_append_left, length-map}
 use Rattle.std.proofs.lemmas.Bool.{eqb-true, eqb-false, ne_eqb, eq-eqb, cases_Bool, cases_eq, cases_lt, both_ways, and_parts, and_from, or_left, or_right, or_cases, not-true}
-use Rattle.rows.specs.Laws.{Laws, Accepted}
+use Rattle.rows.specs.Laws.{Laws, AcceptedFor}
 use Rattle.rows.specs.Rows.{alone, RowData}
 use Rattle.rows.specs.declared.member.Member.{Member}
 use Rattle.sets.specs.Placings.{some_empty, all_fixed, Proper, Within, Narrower, values}
 use Rattle.std.specs.List.{list_all, list_any}
 use Rattle.sets.specs.Sets.{has, fixed, least, mask}
-use Rattle.kinds.specs.Differing.{spares, takes, all_different, differing_rule}
+use Rattle.kinds.specs.Differing.{may_stay, values_taken, all_placed, fixed_values, all_different, differing_rule}
 use Rattle.rows.specs.Shared.{at, cuts, distinct, shaped, declared}
 use Rattle.rows.specs.declared.trace.Trace.TheVariants.{Settled, Open}
 use Rattle.sets.proofs.Membership.{has_mask, mask_below, has_above, has_none, has_least, same_sets, ones_less, ones_zero}
@@ -22,8 +22,8 @@ use Rattle.sets.proofs.Lists.{value_place}
 -- ---- lists whose elements differ
 
 -- elements with the same f have the same g
-abbrev Tied : {A : Type 0} → (A → ℕ) → (A → ℕ) → List A → A → Type 0
-Tied f g xs x = Each (λ y. f y ≡ f x → g y ≡ g x) xs
+abbrev Determined : {A : Type 0} → (A → ℕ) → (A → ℕ) → List A → A → Type 0
+Determined f g xs x = Each (λ y. f y ≡ f x → g y ≡ g x) xs
 
 pub any_map : {A B : Type 0} (g : A → B) (f : B → Bool) (xs : List A) → list_any f (map g xs) ≡ list_any (λ x. f (g x)) xs
 any_map g f [] = refl
@@ -34,26 +34,26 @@ head_apart f x xs e =
     each_map (λ y. (f x == f y) ≡ false) (λ y. f x ≢ f y) xs (λ y k. eqb-false (f x) (f y) k)
     (none_each (λ y. nat_eq (f x) (f y)) xs (sym (any_map f (nat_eq (f x)) xs) ∙ not-true (list_any (nat_eq (f x)) (map f xs)) e))
 
-distinct_tied : {A : Type 0} (f g : A → ℕ) (xs : List A) → distinct (map f xs) ≡ true → Each (Tied f g xs) xs
-distinct_tied f g [] e = tt
-distinct_tied f g (x ∷ xs) e =
+distinct_determined : {A : Type 0} (f g : A → ℕ) (xs : List A) → distinct (map f xs) ≡ true → Each (Determined f g xs) xs
+distinct_determined f g [] e = tt
+distinct_determined f g (x ∷ xs) e =
     let p = and_parts (not (list_any (nat_eq (f x)) (map f xs))) (distinct (map f xs)) e in
     let far = head_apart f x xs p.0 in (
       (λ _. refl, each_map (λ y. f x ≢ f y) (λ y. f y ≡ f x → g y ≡ g x) xs (λ y n k. absurd (n (sym k))) far),
-      each_both (λ y. f x ≢ f y) (Tied f g xs) (Tied f g (x ∷ xs)) xs (λ y n d. (λ k. absurd (n k), d)) far (distinct_tied f g xs p.1),
+      each_both (λ y. f x ≢ f y) (Determined f g xs) (Determined f g (x ∷ xs)) xs (λ y n d. (λ k. absurd (n k), d)) far (distinct_determined f g xs p.1),
     )
 
 head_distinct : {A : Type 0} (f : A → ℕ) (x : A) (xs : List A) → Each (λ y. f x ≢ f y) xs → not (list_any (nat_eq (f x)) (map f xs)) ≡ true
 head_distinct f x [] d = refl
 head_distinct f x (y ∷ xs) d = ap (λ (b : Bool). not (b || list_any (nat_eq (f x)) (map f xs))) (ne_eqb (f x) (f y) d.0) ∙ head_distinct f x xs d.1
 
-tied_distinct : {A : Type 0} (f g : A → ℕ) (xs : List A) → distinct (map g xs) ≡ true → Each (Tied f g xs) xs → distinct (map f xs) ≡ true
-tied_distinct f g [] e d = refl
-tied_distinct f g (x ∷ xs) e d =
+determined_distinct : {A : Type 0} (f g : A → ℕ) (xs : List A) → distinct (map g xs) ≡ true → Each (Determined f g xs) xs → distinct (map f xs) ≡ true
+determined_distinct f g [] e d = refl
+determined_distinct f g (x ∷ xs) e d =
     let p = and_parts (not (list_any (nat_eq (g x)) (map g xs))) (distinct (map g xs)) e in
     and_from (not (list_any (nat_eq (f x)) (map f xs))) (distinct (map f xs))
     (head_distinct f x xs (each_both (λ y. g x ≢ g y) (λ y. f y ≡ f x → g y ≡ g x) (λ y. f x ≢ f y) xs (λ y n k m. n (sym (k (sym m)))) (head_apart g x xs p.0) d.0.1))
-    (tied_distinct f g xs p.1 (each_map (Tied f g (x ∷ xs)) (Tied f g xs) xs (λ y k. k.1) d.1))
+    (determined_distinct f g xs p.1 (each_map (Determined f g (x ∷ xs)) (Determined f g xs) xs (λ y k. k.1) d.1))
 
 -- ---- the set of a list's elements, and how many it has
 
@@ -114,18 +114,18 @@ same_distinct k l a b e same =
 
 -- ---- the turn
 
-pub takes_small : (ms rest : List Member) (s : List ℕ) → Small s → Small (takes ms rest s)
-takes_small ms [] s h = h
-takes_small ms (m ∷ rest) s h = takes_small ms rest (cuts (spares m (at s m)) ms s) (cuts_small (spares m (at s m)) ms s h)
+pub taken_small : (ms rest : List Member) (s : List ℕ) → Small s → Small (values_taken ms rest s)
+taken_small ms [] s h = h
+taken_small ms (m ∷ rest) s h = taken_small ms rest (cuts (may_stay m (at s m)) ms s) (cuts_small (may_stay m (at s m)) ms s h)
 
-pub takes_narrower : (ms rest : List Member) (s : List ℕ) → Narrower (takes ms rest s) s
-takes_narrower ms [] s = narrower_refl s
-takes_narrower ms (m ∷ rest) s =
-    let u = cuts (spares m (at s m)) ms s in
-    narrower_trans (takes ms rest u) u s (takes_narrower ms rest u) (cuts_narrower (spares m (at s m)) ms s)
+pub taken_narrower : (ms rest : List Member) (s : List ℕ) → Narrower (values_taken ms rest s) s
+taken_narrower ms [] s = narrower_refl s
+taken_narrower ms (m ∷ rest) s =
+    let u = cuts (may_stay m (at s m)) ms s in
+    narrower_trans (values_taken ms rest u) u s (taken_narrower ms rest u) (cuts_narrower (may_stay m (at s m)) ms s)
 
-spared : (m n : Member) (s v w : ℕ) → (fixed s ≡ true → v ≡ least s) → (w ≡ v → n.voice ≡ m.voice) → spares m s n w ≡ true
-spared m n s v w f g = elim (cases_Bool (fixed s)) [
+stays_by : (m n : Member) (s v w : ℕ) → (fixed s ≡ true → v ≡ least s) → (w ≡ v → n.voice ≡ m.voice) → may_stay m s n w ≡ true
+stays_by m n s v w f g = elim (cases_Bool (fixed s)) [
   | inr k ↦ or_left (not (fixed s)) (n.voice == m.voice || not (w == least s)) (ap not k)
   | inl k ↦ or_right (not (fixed s)) (n.voice == m.voice || not (w == least s)) (elim (cases_eq w v) [
     | inl e ↦ or_left (n.voice == m.voice) (not (w == least s)) (eq-eqb n.voice m.voice (g e))
@@ -133,26 +133,26 @@ spared m n s v w f g = elim (cases_Bool (fixed s)) [
   ])
 ]
 
-takes_within : (p : List ℕ) (ms rest : List Member) (s : List ℕ) → Small s → Within p s → Declared (length s) rest → Each (Tied (at p) (λ m. m.voice) ms) rest → Within p (takes ms rest s)
-takes_within p ms [] s h w d e = w
-takes_within p ms (m ∷ rest) s h w d e =
-    let u = cuts (spares m (at s m)) ms s in
-    takes_within p ms rest u (cuts_small (spares m (at s m)) ms s h)
-    (cuts_within p (spares m (at s m)) ms s h w (each_map (λ n. at p n ≡ at p m → n.voice ≡ m.voice) (λ n. spares m (at s m) n (at p n) ≡ true) ms
-    (λ n k. spared m n (at s m) (at p m) (at p n) (fixed_value s p m.voice h w d.0) k) e.0))
-    (subst (λ (k : ℕ). Declared k rest) (sym (cuts_narrower (spares m (at s m)) ms s).long) d.1) e.1
+taken_within : (p : List ℕ) (ms rest : List Member) (s : List ℕ) → Small s → Within p s → Declared (length s) rest → Each (Determined (at p) (λ m. m.voice) ms) rest → Within p (values_taken ms rest s)
+taken_within p ms [] s h w d e = w
+taken_within p ms (m ∷ rest) s h w d e =
+    let u = cuts (may_stay m (at s m)) ms s in
+    taken_within p ms rest u (cuts_small (may_stay m (at s m)) ms s h)
+    (cuts_within p (may_stay m (at s m)) ms s h w (each_map (λ n. at p n ≡ at p m → n.voice ≡ m.voice) (λ n. may_stay m (at s m) n (at p n) ≡ true) ms
+    (λ n k. stays_by m n (at s m) (at p m) (at p n) (fixed_value s p m.voice h w d.0) k) e.0))
+    (subst (λ (k : ℕ). Declared k rest) (sym (cuts_narrower (may_stay m (at s m)) ms s).long) d.1) e.1
 
-takes_more : (ms rest : List Member) (s t : List ℕ) → Declared (length s) ms → Declared (length s) rest → takes ms rest (s ++ t) ≡ takes ms rest s ++ t
-takes_more ms [] s t d e = refl
-takes_more ms (m ∷ rest) s t d e =
-    let u = cuts (spares m (at s m)) ms s in
-    let long : length s ≡ length u = sym (cuts_narrower (spares m (at s m)) ms s).long in
-    ap (takes ms rest) (ap (λ (x : ℕ). cuts (spares m x) ms (s ++ t)) (get_or_append_left s t 0 m.voice e.0) ∙ cuts_more (spares m (at s m)) ms s t d)
-    ∙ takes_more ms rest u t (subst (λ (k : ℕ). Declared k ms) long d) (subst (λ (k : ℕ). Declared k rest) long e.1)
+taken_more : (ms rest : List Member) (s t : List ℕ) → Declared (length s) ms → Declared (length s) rest → values_taken ms rest (s ++ t) ≡ values_taken ms rest s ++ t
+taken_more ms [] s t d e = refl
+taken_more ms (m ∷ rest) s t d e =
+    let u = cuts (may_stay m (at s m)) ms s in
+    let long : length s ≡ length u = sym (cuts_narrower (may_stay m (at s m)) ms s).long in
+    ap (values_taken ms rest) (ap (λ (x : ℕ). cuts (may_stay m x) ms (s ++ t)) (get_or_append_left s t 0 m.voice e.0) ∙ cuts_more (may_stay m (at s m)) ms s t d)
+    ∙ taken_more ms rest u t (subst (λ (k : ℕ). Declared k ms) long d) (subst (λ (k : ℕ). Declared k rest) long e.1)
 
 -- all is fixed and the turn changes nothing: members with the same value have the same voice
-tied_by : (m n : Member) (s t : ℕ) → fixed s ≡ true → spares m s n (least t) ≡ true → least t ≡ least s → n.voice ≡ m.voice
-tied_by m n s t f e k = elim (or_cases (not (fixed s)) (n.voice == m.voice || not (least t == least s)) e) [
+determined_by : (m n : Member) (s t : ℕ) → fixed s ≡ true → may_stay m s n (least t) ≡ true → least t ≡ least s → n.voice ≡ m.voice
+determined_by m n s t f e k = elim (or_cases (not (fixed s)) (n.voice == m.voice || not (least t == least s)) e) [
   | inl x ↦ absurd (both_ways (fixed s) (not-true (fixed s) x) f)
   | inr x ↦ elim (or_cases (n.voice == m.voice) (not (least t == least s)) x) [
     | inl y ↦ eqb-true n.voice m.voice y
@@ -160,36 +160,33 @@ tied_by m n s t f e k = elim (or_cases (not (fixed s)) (n.voice == m.voice || no
   ]
 ]
 
-takes_nothing : (ms rest : List Member) (s : List ℕ) → Proper s → all_fixed s ≡ true → Declared (length s) ms → Declared (length s) rest → takes ms rest s ≡ s
-    → Each (Tied (λ m. least (at s m)) (λ m. m.voice) ms) rest
-takes_nothing ms [] s h f d e k = tt
-takes_nothing ms (m ∷ rest) s h f d e k =
-    let u = cuts (spares m (at s m)) ms s in
+nothing_taken : (ms rest : List Member) (s : List ℕ) → Proper s → all_fixed s ≡ true → Declared (length s) ms → Declared (length s) rest → values_taken ms rest s ≡ s
+    → Each (Determined (λ m. least (at s m)) (λ m. m.voice) ms) rest
+nothing_taken ms [] s h f d e k = tt
+nothing_taken ms (m ∷ rest) s h f d e k =
+    let u = cuts (may_stay m (at s m)) ms s in
     let small = proper_small s h in
-    let one : u ≡ s = squeezed (takes ms rest u) u s (cuts_small (spares m (at s m)) ms s small) small (takes_narrower ms rest u) (cuts_narrower (spares m (at s m)) ms s) k in (
-      each_both (λ n. n.voice < length s) (λ n. (v : ℕ) → has (at s n) v ≡ true → spares m (at s m) n v ≡ true) (λ n. least (at s n) ≡ least (at s m) → n.voice ≡ m.voice) ms
-          (λ n l g. tied_by m n (at s m) (at s n) (fixed_place s m.voice f e.0) (g (least (at s n)) (has_least (at s n) (h n.voice l).0 (h n.voice l).1)))
-          d (cuts_nothing (spares m (at s m)) ms s small d one),
-      takes_nothing ms rest s h f d e.1 (ap (takes ms rest) (sym one) ∙ k),
+    let one : u ≡ s = squeezed (values_taken ms rest u) u s (cuts_small (may_stay m (at s m)) ms s small) small (taken_narrower ms rest u) (cuts_narrower (may_stay m (at s m)) ms s) k in (
+      each_both (λ n. n.voice < length s) (λ n. (v : ℕ) → has (at s n) v ≡ true → may_stay m (at s m) n v ≡ true) (λ n. least (at s n) ≡ least (at s m) → n.voice ≡ m.voice) ms
+          (λ n l g. determined_by m n (at s m) (at s n) (fixed_place s m.voice f e.0) (g (least (at s n)) (has_least (at s n) (h n.voice l).0 (h n.voice l).1)))
+          d (cuts_nothing (may_stay m (at s m)) ms s small d one),
+      nothing_taken ms rest s h f d e.1 (ap (values_taken ms rest) (sym one) ∙ k),
     )
 
 -- ---- the laws
 
-abbrev Fine : RowData → List ℕ → Type 0
-Fine r s = Accepted (alone all_different) r (length s)
-
-members : (r : RowData) (s : List ℕ) → Fine r s → Declared (length s) r.members
+members : (r : RowData) (s : List ℕ) → AcceptedFor all_different r s → Declared (length s) r.members
 members r s a = accepted_members (shaped 0x41 1 r) (differing_rule r) r (length s) a.yes
 
-apart : (r : RowData) (s : List ℕ) → Fine r s → distinct (map (λ m. m.voice) r.members) ≡ true
+apart : (r : RowData) (s : List ℕ) → AcceptedFor all_different r s → distinct (map (λ m. m.voice) r.members) ≡ true
 apart r s a = (and_parts (list_all (λ m. nat_eq (unsigned_abs m.argument) 0) r.members) (distinct (map (λ m. m.voice) r.members)) (verdict_parts (shaped 0x41 1 r) (declared (length s) r) (differing_rule r) a.yes).rule).1
 
-checks : (r : RowData) (s : List ℕ) → Fine r s → Proper s → all_fixed s ≡ true → distinct (map (at (values s)) r.members) ≡ false → some_empty (takes r.members r.members s) ≡ true
+checks : (r : RowData) (s : List ℕ) → AcceptedFor all_different r s → Proper s → all_fixed s ≡ true → distinct (map (at (values s)) r.members) ≡ false → some_empty (values_taken r.members r.members s) ≡ true
 checks r s a h f e =
     let ms = r.members in
-    checks_by (takes ms ms s) s (distinct (map (at (values s)) ms)) (takes_small ms ms s (proper_small s h)) (proper_small s h) (takes_narrower ms ms s) f
+    checks_by (values_taken ms ms s) s (distinct (map (at (values s)) ms)) (taken_small ms ms s (proper_small s h)) (proper_small s h) (taken_narrower ms ms s) f
     (λ k. ap distinct (map_same (at (values s)) (λ m. least (at s m)) ms (each_map (λ m. m.voice < length s) (λ m. at (values s) m ≡ least (at s m)) ms (λ m l. value_place s m.voice l) (members r s a)))
-    ∙ tied_distinct (λ m. least (at s m)) (λ m. m.voice) ms (apart r s a) (takes_nothing ms ms s h f (members r s a) (members r s a) k)) e
+    ∙ determined_distinct (λ m. least (at s m)) (λ m. m.voice) ms (apart r s a) (nothing_taken ms ms s h f (members r s a) (members r s a) k)) e
 
 -- all fixed and different, then it holds
 settled_holds : (s p : List ℕ) (ms : List Member) → Small s → Within p s → Declared (length s) ms → (list_all (λ m. fixed (at s m)) ms && distinct (map (λ m. least (at s m)) ms)) ≡ true
@@ -247,31 +244,25 @@ projects_open s t p q ms w d e =
       | inr b ↦ ap₂ (λ (x : Bool) (y : ℕ). not x && v == y) (b.open_s ∙ sym b.open_t) b.same
     ]
 
-abbrev done : List ℕ → List Member → Bool
-done s ms = list_all (λ m. fixed (at s m)) ms && distinct (map (λ m. least (at s m)) ms)
-
-abbrev content_of : List ℕ → List Member → ℕ
-content_of s ms = mask 64 (λ v. list_any (fixed_as s v) ms)
-
 projects : (s t p q : List ℕ) (ms : List Member) → Twins s t p q → Declared (length s) ms
-    → cond (done s ms) Settled (Open (content_of s ms)) ≡ cond (done t ms) Settled (Open (content_of t ms)) → distinct (map (at p) ms) ≡ distinct (map (at q) ms)
+    → cond (all_placed ms s) Settled (Open (fixed_values ms s)) ≡ cond (all_placed ms t) Settled (Open (fixed_values ms t)) → distinct (map (at p) ms) ≡ distinct (map (at q) ms)
 projects s t p q ms w d e =
-    let mark : done s ms ≡ done t ms = same_mark (done s ms) (done t ms) (content_of s ms) (content_of t ms) e in
-    elim (cases_Bool (done s ms)) [
+    let mark : all_placed ms s ≡ all_placed ms t = same_mark (all_placed ms s) (all_placed ms t) (fixed_values ms s) (fixed_values ms t) e in
+    elim (cases_Bool (all_placed ms s)) [
       | inl k ↦ settled_holds s p ms w.small_s w.in_s d k ∙ sym (settled_holds t q ms w.small_t w.in_t (subst (λ (n : ℕ). Declared n ms) w.alike.long d) (sym mark ∙ k))
-      | inr k ↦ projects_open s t p q ms w d (same_content (done s ms) (done t ms) (content_of s ms) (content_of t ms) e k (sym mark ∙ k))
+      | inr k ↦ projects_open s t p q ms w d (same_content (all_placed ms s) (all_placed ms t) (fixed_values ms s) (fixed_values ms t) e k (sym mark ∙ k))
     ]
 
 pub all_different_lawful : Laws (alone all_different)
 all_different_lawful = record {
   lettered = lettered_by all_different refl (lit≤ tt) (lit≤ tt);
-  narrows = λ r s a h. takes_narrower r.members r.members s;
-  sound = λ r s p a h w e. takes_within p r.members r.members s (proper_small s h) w (members r s a) (distinct_tied (at p) (λ m. m.voice) r.members e);
+  narrows = λ r s a h. taken_narrower r.members r.members s;
+  sound = λ r s p a h w e. taken_within p r.members r.members s (proper_small s h) w (members r s a) (distinct_determined (at p) (λ m. m.voice) r.members e);
   checks = checks;
   projects = λ r s t p q a hs ht k e ws wt g. projects s t p q r.members (twins s t p q hs ht k ws wt g) (members r s a) e;
   stays = λ r n k a. record { shape = a.shape; yes = stays_verdict (shaped 0x41 1 r) (differing_rule r) r n k a.yes };
   holds_more = λ r p q a _. ap distinct (map_same (at (p ++ q)) (at p) r.members (at_more r.members p q (members r p a)));
-  turn_more = λ r s t a _. takes_more r.members r.members s t (members r s a) (members r s a);
+  turn_more = λ r s t a _. taken_more r.members r.members s t (members r s a) (members r s a);
   trace_more = λ r s t a _.
       let same = at_more r.members s t (members r s a) in
       ap₂ (λ (b : Bool) (c : ℕ). cond b Settled (Open c))

@@ -3,14 +3,14 @@ use Rattle.std.specs.Prelude.{◌≡◌, ℕ, zero, suc, ◌+◌, ◌<◌, ◌�
 use Rattle.std.proofs.Common.{sym, ap, ap₂, ◌∙◌, subst, inl, inr, le_of_suc-le-suc, arith, lit≤}
 use Rattle.std.proofs.lemmas.List.{get_or_append_left}
 use Rattle.std.proofs.lemmas.Bool.{eqb-true, ne_eqb, eq-eqb, cases_lt, and_parts, and_from, or_left, or_right, ltb-true, lt-ltb, le-ltb}
-use Rattle.rows.specs.Laws.{Laws, Accepted}
+use Rattle.rows.specs.Laws.{Laws, AcceptedFor}
 use Rattle.rows.specs.Rows.{alone, RowData}
 use Rattle.rows.specs.declared.member.Member.{Member}
 use Rattle.rows.specs.declared.trace.Trace.{Trace}
 use Rattle.rows.specs.Traces.{content_word}
 use Rattle.sets.specs.Placings.{some_empty, all_fixed, Proper, Within, Narrower, values}
 use Rattle.sets.specs.Sets.{has, fixed, least}
-use Rattle.kinds.specs.Entries.{index, result_voice, entry, reached, indexed, resulted, meets, element_trace, element, element_rule}
+use Rattle.kinds.specs.Entries.{index, result_voice, entry, reached, narrow_index, narrow_result, meets, element_trace, element, element_rule}
 use Rattle.rows.specs.Shared.{cut, shaped}
 use Rattle.sets.proofs.Membership.{has_least, fixed_member}
 use Rattle.rows.proofs.Cuts.{Small, proper_small, fixed_place, cut_small, cut_narrower, cut_within, cut_more, cut_nothing, length_cut, squeezed, narrower_trans}
@@ -48,9 +48,6 @@ meets_entry r i v h = elim (cases_lt i (length r.members)) [
 
 -- ---- the laws
 
-abbrev Fine : RowData → List ℕ → Type 0
-Fine r s = Accepted (alone element) r (length s)
-
 two_voices : (r : RowData) (n : ℕ) → element.accepts r n ≡ Ok tt → (index r < n) × (result_voice r < n)
 two_voices r n a =
     let b = and_parts (nat_lt (index r) n) (nat_lt (result_voice r) n) (verdict_parts (shaped 0x45 3 r) (nat_lt (index r) n && nat_lt (result_voice r) n) (element_rule r) a).voices in
@@ -62,39 +59,39 @@ may_index r s i = nat_lt i (length r.members) && has (slice_index s (result_voic
 abbrev may_result : RowData → List ℕ → ℕ → Bool
 may_result r s v = reached r.members (has (slice_index s (index r))) v
 
-small_indexed : (r : RowData) (s : List ℕ) → Small s → Small (indexed r s)
+small_indexed : (r : RowData) (s : List ℕ) → Small s → Small (narrow_index r s)
 small_indexed r s h = cut_small (index r) (may_index r s) s h
 
-small_turn : (r : RowData) (s : List ℕ) → Small s → Small (resulted r (indexed r s))
-small_turn r s h = cut_small (result_voice r) (may_result r (indexed r s)) (indexed r s) (small_indexed r s h)
+small_turn : (r : RowData) (s : List ℕ) → Small s → Small (narrow_result r (narrow_index r s))
+small_turn r s h = cut_small (result_voice r) (may_result r (narrow_index r s)) (narrow_index r s) (small_indexed r s h)
 
-narrows : (r : RowData) (s : List ℕ) → Narrower (resulted r (indexed r s)) s
+narrows : (r : RowData) (s : List ℕ) → Narrower (narrow_result r (narrow_index r s)) s
 narrows r s =
-    narrower_trans (resulted r (indexed r s)) (indexed r s) s (cut_narrower (result_voice r) (may_result r (indexed r s)) (indexed r s)) (cut_narrower (index r) (may_index r s) s)
+    narrower_trans (narrow_result r (narrow_index r s)) (narrow_index r s) s (cut_narrower (result_voice r) (may_result r (narrow_index r s)) (narrow_index r s)) (cut_narrower (index r) (may_index r s) s)
 
-sound : (r : RowData) (s p : List ℕ) → Fine r s → Proper s → Within p s → meets r (slice_index p (index r)) (slice_index p (result_voice r)) ≡ true → Within p (resulted r (indexed r s))
+sound : (r : RowData) (s p : List ℕ) → AcceptedFor element r s → Proper s → Within p s → meets r (slice_index p (index r)) (slice_index p (result_voice r)) ≡ true → Within p (narrow_result r (narrow_index r s))
 sound r s p a h w e =
     let i = slice_index_or p (index r) 0 in
     let v = slice_index_or p (result_voice r) 0 in
     let b = and_parts (nat_lt i (length r.members)) (v == entry r.members i) e in
     let here : v ≡ entry r.members i = eqb-true v (entry r.members i) b.1 in
     let d = two_voices r (length s) a.yes in
-    let w1 : Within p (indexed r s) = cut_within p s (index r) (may_index r s) (proper_small s h) w
+    let w1 : Within p (narrow_index r s) = cut_within p s (index r) (may_index r s) (proper_small s h) w
     (and_from (nat_lt i (length r.members)) (has (slice_index s (result_voice r)) (entry r.members i)) b.0 (ap (has (slice_index s (result_voice r))) (sym here) ∙ w.each (result_voice r) d.1)) in
-    let l : index r < length (indexed r s) = subst (λ (n : ℕ). index r < n) (sym (length_cut (index r) (may_index r s) s)) d.0 in
-    cut_within p (indexed r s) (result_voice r) (may_result r (indexed r s)) (small_indexed r s (proper_small s h)) w1
-    (ap (may_result r (indexed r s)) here ∙ reached_at r.members (has (slice_index (indexed r s) (index r))) i (ltb-true i (length r.members) b.0) (w1.each (index r) l))
+    let l : index r < length (narrow_index r s) = subst (λ (n : ℕ). index r < n) (sym (length_cut (index r) (may_index r s) s)) d.0 in
+    cut_within p (narrow_index r s) (result_voice r) (may_result r (narrow_index r s)) (small_indexed r s (proper_small s h)) w1
+    (ap (may_result r (narrow_index r s)) here ∙ reached_at r.members (has (slice_index (narrow_index r s) (index r))) i (ltb-true i (length r.members) b.0) (w1.each (index r) l))
 
-checks : (r : RowData) (s : List ℕ) → Fine r s → Proper s → all_fixed s ≡ true → meets r (slice_index (values s) (index r)) (slice_index (values s) (result_voice r)) ≡ false
-    → some_empty (resulted r (indexed r s)) ≡ true
+checks : (r : RowData) (s : List ℕ) → AcceptedFor element r s → Proper s → all_fixed s ≡ true → meets r (slice_index (values s) (index r)) (slice_index (values s) (result_voice r)) ≡ false
+    → some_empty (narrow_result r (narrow_index r s)) ≡ true
 checks r s a h f e =
     let small = proper_small s h in
     let d = two_voices r (length s) a.yes in
     let x = slice_index_or s (index r) 0 in
     let y = slice_index_or s (result_voice r) 0 in
-    checks_by (resulted r (indexed r s)) s (meets r (slice_index (values s) (index r)) (slice_index (values s) (result_voice r))) (small_turn r s small) small (narrows r s) f
-    (λ k. let one : indexed r s ≡ s = squeezed (resulted r (indexed r s)) (indexed r s) s (small_indexed r s small) small
-    (cut_narrower (result_voice r) (may_result r (indexed r s)) (indexed r s)) (cut_narrower (index r) (may_index r s) s) k in
+    checks_by (narrow_result r (narrow_index r s)) s (meets r (slice_index (values s) (index r)) (slice_index (values s) (result_voice r))) (small_turn r s small) small (narrows r s) f
+    (λ k. let one : narrow_index r s ≡ s = squeezed (narrow_result r (narrow_index r s)) (narrow_index r s) s (small_indexed r s small) small
+    (cut_narrower (result_voice r) (may_result r (narrow_index r s)) (narrow_index r s)) (cut_narrower (index r) (may_index r s) s) k in
     let b = and_parts (nat_lt (least x) (length r.members)) (has y (entry r.members (least x)))
     (cut_nothing (index r) (may_index r s) s (least x) one d.0 (has_least x (h (index r) d.0).0 (h (index r) d.0).1)) in
     ap₂ (meets r) (value_place s (index r) d.0) (value_place s (result_voice r) d.1)
@@ -141,17 +138,17 @@ stays r n k a =
     parts_verdict (shaped 0x45 3 r) (nat_lt (index r) (n + k) && nat_lt (result_voice r) (n + k)) (element_rule r) v.shape
     (and_from (nat_lt (index r) (n + k)) (nat_lt (result_voice r) (n + k)) (lt-ltb (index r) (n + k) (omega arith)) (lt-ltb (result_voice r) (n + k) (omega arith))) v.rule
 
-turn_more : (r : RowData) (s t : List ℕ) → Fine r s → resulted r (indexed r (s ++ t)) ≡ resulted r (indexed r s) ++ t
+turn_more : (r : RowData) (s t : List ℕ) → AcceptedFor element r s → narrow_result r (narrow_index r (s ++ t)) ≡ narrow_result r (narrow_index r s) ++ t
 turn_more r s t a =
     let d = two_voices r (length s) a.yes in
-    let u = indexed r s in
+    let u = narrow_index r s in
     let long : length s ≡ length u = sym (length_cut (index r) (may_index r s) s) in
     let lx : index r < length u = subst (λ (n : ℕ). index r < n) long d.0 in
     let ly : result_voice r < length u = subst (λ (n : ℕ). result_voice r < n) long d.1 in
-    let first : indexed r (s ++ t) ≡ u ++ t =
+    let first : narrow_index r (s ++ t) ≡ u ++ t =
     ap (λ (y : ℕ). cut (index r) (λ i. nat_lt i (length r.members) && has y (entry r.members i)) (s ++ t)) (get_or_append_left s t 0 (result_voice r) d.1)
     ∙ cut_more (index r) (may_index r s) s t d.0 in
-    ap (resulted r) first
+    ap (narrow_result r) first
     ∙ ap (λ (x : ℕ). cut (result_voice r) (λ v. reached r.members (has x) v) (u ++ t)) (get_or_append_left u t 0 (index r) lx)
     ∙ cut_more (result_voice r) (may_result r u) u t ly
 

@@ -10,25 +10,29 @@ use Rattle.rows.specs.Rows.{RowData, KindMeaning}
 use Rattle.rows.specs.Shared.{cuts, at, shaped, verdict, declared}
 use Rattle.rows.specs.declared.trace.Trace.TheVariants.{Settled, Open}
 
--- what the literal says of the voice's value: it is the argument; from 64 on, it is not the argument less 64
-abbrev pub says : Member → ℕ → Bool
-says m v = cond (nat_lt (unsigned_abs m.argument) 64) (v == unsigned_abs m.argument) (not (v == unsigned_abs m.argument - 64))
+-- the literal holds for the value: below 64 the value is the argument; from 64 on it is not the argument less 64
+abbrev pub literal_holds : Member → ℕ → Bool
+literal_holds m v = cond (nat_lt (unsigned_abs m.argument) 64) (v == unsigned_abs m.argument) (not (v == unsigned_abs m.argument - 64))
+
+-- it holds for the placing
+abbrev pub holds_at : List ℕ → Member → Bool
+holds_at p m = literal_holds m (at p m)
 
 -- false for all values of its set, and true for all
 abbrev pub refuted : List ℕ → Member → Bool
-refuted s m = sift (says m) (at s m) == 0
+refuted s m = sift (literal_holds m) (at s m) == 0
 
 abbrev pub certain : List ℕ → Member → Bool
-certain s m = sift (λ v. not (says m v)) (at s m) == 0
+certain s m = sift (λ v. not (literal_holds m v)) (at s m) == 0
 
 -- true for some value of its set: not refuted
-abbrev pub stands : List ℕ → Member → Bool
-stands s m = not (refuted s m)
+abbrev pub may_hold : List ℕ → Member → Bool
+may_hold s m = not (refuted s m)
 
 -- by the literals that are not refuted: none, and the first member's set becomes empty; one, and its set loses the values that make it false
 abbrev pub units : List Member → List Member → List ℕ → List ℕ
 units [] ms s = cuts (λ _ _. false) (take 1 ms) s
-units (m ∷ []) ms s = cuts says (m ∷ []) s
+units (m ∷ []) ms s = cuts literal_holds (m ∷ []) s
 units (m ∷ (n ∷ rest)) ms s = s
 
 -- an argument from 0 to 127
@@ -61,7 +65,7 @@ clause = record {
   letter = 0x43;
   body_length = 1;
   accepts = λ r n. verdict (shaped 0x43 1 r) (declared n r) (clause_rule r);
-  holds = λ r p. list_any (λ m. says m (at p m)) r.members;
-  turn = λ r s. units (filter (stands s) r.members) r.members s;
+  holds = λ r p. list_any (holds_at p) r.members;
+  turn = λ r s. units (filter (may_hold s) r.members) r.members s;
   trace = λ r s. cond (list_any (certain s) r.members) Settled (Open 0);
 }

@@ -38,6 +38,14 @@ placed s m = cond (fixed (at s m)) (term m (least (at s m))) (pos 0)
 abbrev pub within : RowData → List ℕ → Member → ℕ → Bool
 within r s m v = int_le (term m v +ℤ (total (low s) r.members -ℤ low s m)) (bound r)
 
+-- even the greatest sum is within the bound
+abbrev pub always_within : RowData → List ℕ → Bool
+always_within r s = int_le (total (high s) r.members) (bound r)
+
+-- what the fixed members add up to, from 4,000,000 on: so large that no accepted row has less than 0
+abbrev pub linear_content : RowData → List ℕ → ℕ
+linear_content r s = unsigned_abs (total (placed s) r.members +ℤ pos 4000000)
+
 -- the bound from -3,000,000 to 3,000,000, the coefficients from -1,000 to 1,000
 abbrev pub linear_rule : RowData → Bool
 linear_rule r = nat_le (unsigned_abs (bound r)) 3000000 && list_all (λ m. leb (unsigned_abs m.argument) 1000) r.members
@@ -62,5 +70,5 @@ linear = record {
   accepts = λ r n. verdict (shaped 0x4C 5 r) (declared n r) (linear_rule r);
   holds = λ r p. int_le (total (λ m. term m (at p m)) r.members) (bound r);
   turn = λ r s. cuts (within r s) r.members s;
-  trace = λ r s. cond (int_le (total (high s) r.members) (bound r)) Settled (Open (unsigned_abs (total (placed s) r.members +ℤ pos 4000000)));
+  trace = λ r s. cond (always_within r s) Settled (Open (linear_content r s));
 }

@@ -6,7 +6,7 @@ use Rattle.std.specs.Int.Signed.{non_neg, ≤ℤ_refl}
 use Rattle.std.proofs.lemmas.Int.{ints}
 use Rattle.std.proofs.lemmas.Nat.{mul-le}
 use Rattle.std.proofs.lemmas.Bool.{leb-true, cases_Bool, both_ways, and_parts}
-use Rattle.rows.specs.Laws.{Laws, Accepted}
+use Rattle.rows.specs.Laws.{Laws, AcceptedFor}
 use Rattle.rows.specs.Rows.{alone, RowData}
 use Rattle.rows.specs.declared.member.Member.{Member}
 use Rattle.sets.specs.Placings.{some_empty, all_fixed, Proper, Within, values}
@@ -14,7 +14,7 @@ use Rattle.std.specs.List.{list_all}
 use Rattle.sets.specs.Sets.{has, fixed, least, greatest}
 use Rattle.rows.specs.Shared.{at, cut, cuts, shaped, declared}
 use Rattle.rows.specs.declared.trace.Trace.TheVariants.{Settled, Open}
-use Rattle.kinds.specs.Sums.{bound, total, term, low, high, within, linear, linear_rule}
+use Rattle.kinds.specs.Sums.{bound, total, term, low, high, placed, within, always_within, linear_content, linear, linear_rule}
 use Rattle.sets.proofs.Membership.{has_least, has_greatest, least_first, greatest_last, fixed_pos, fixed_member}
 use Rattle.rows.proofs.Cuts.{Each, all_each, each_map, each_both, Declared, Small, proper_small, fixed_place, cuts_small, cuts_narrower, cuts_within, cuts_more, cuts_nothing}
 use Rattle.rows.proofs.Members.{lettered_by, verdict_parts, stays_verdict, accepted_members, shaped_long, at_more, fixed_value, value_below, Twins, twins, at_twins, same_mark, same_content, checks_by}
@@ -135,29 +135,23 @@ total_abs f k (m ∷ ms) e = le_trans (abs_add (f m) (total f ms)) (omega (arith
 abbrev value_of : List ℕ → Member → ℤ
 value_of p m = term m (at p m)
 
-abbrev fixed_part : List ℕ → Member → ℤ
-fixed_part s m = cond (fixed (at s m)) (term m (least (at s m))) (pos 0)
-
 abbrev open_part : List ℕ → List ℕ → Member → ℤ
 open_part s p m = cond (fixed (at s m)) (pos 0) (term m (at p m))
 
-abbrev Fine : RowData → List ℕ → Type 0
-Fine r s = Accepted (alone linear) r (length s)
-
-members : (r : RowData) (s : List ℕ) → Fine r s → Declared (length s) r.members
+members : (r : RowData) (s : List ℕ) → AcceptedFor linear r s → Declared (length s) r.members
 members r s a = accepted_members (shaped 0x4C 5 r) (linear_rule r) r (length s) a.yes
 
-long : (r : RowData) (s : List ℕ) → Fine r s → (1 ≤ length r.members) × (length r.members ≤ 32)
+long : (r : RowData) (s : List ℕ) → AcceptedFor linear r s → (1 ≤ length r.members) × (length r.members ≤ 32)
 long r s a = shaped_long 0x4C 5 r (verdict_parts (shaped 0x4C 5 r) (declared (length s) r) (linear_rule r) a.yes).shape
 
-coefficients : (r : RowData) (s : List ℕ) → Fine r s → Each (λ m. nat_le (unsigned_abs m.argument) 1000 ≡ true) r.members
+coefficients : (r : RowData) (s : List ℕ) → AcceptedFor linear r s → Each (λ m. nat_le (unsigned_abs m.argument) 1000 ≡ true) r.members
 coefficients r s a = all_each (λ m. leb (unsigned_abs m.argument) 1000) r.members
     (and_parts (nat_le (unsigned_abs (bound r)) 3000000) (list_all (λ m. leb (unsigned_abs m.argument) 1000) r.members) (verdict_parts (shaped 0x4C 5 r) (declared (length s) r) (linear_rule r) a.yes).rule).1
 
 lows : (s p : List ℕ) (ms : List Member) → Small s → Within p s → Declared (length s) ms → Each (λ m. low s m ≤ℤ value_of p m) ms
 lows s p ms h w d = each_map (λ m. m.voice < length s) (λ m. low s m ≤ℤ value_of p m) ms (λ m l. low_le s m (at p m) h (w.each m.voice l)) d
 
-sound : (r : RowData) (s p : List ℕ) → Fine r s → Proper s → Within p s → int_le (total (value_of p) r.members) (bound r) ≡ true → Within p (cuts (within r s) r.members s)
+sound : (r : RowData) (s p : List ℕ) → AcceptedFor linear r s → Proper s → Within p s → int_le (total (value_of p) r.members) (bound r) ≡ true → Within p (cuts (within r s) r.members s)
 sound r s p a h w e =
     cuts_within p (within r s) r.members s (proper_small s h) w
     (each_map (λ m. (value_of p m +ℤ (total (low s) r.members -ℤ low s m)) ≤ℤ total (value_of p) r.members) (λ m. within r s m (at p m) ≡ true) r.members
@@ -180,7 +174,7 @@ first_test r s (m ∷ ms) h f c d e =
     (subst (λ (x : ℤ). (x +ℤ (T -ℤ low s m)) ≤ℤ bound r) (sym (fixed_low s m p.0 p.1 (fixed_place s m.voice f d.0)))
     (le_is (term m v +ℤ (T -ℤ low s m)) (bound r) (e.0 v (has_least (at s m) p.0 p.1))))
 
-checks : (r : RowData) (s : List ℕ) → Fine r s → Proper s → all_fixed s ≡ true → int_le (total (value_of (values s)) r.members) (bound r) ≡ false
+checks : (r : RowData) (s : List ℕ) → AcceptedFor linear r s → Proper s → all_fixed s ≡ true → int_le (total (value_of (values s)) r.members) (bound r) ≡ false
     → some_empty (cuts (within r s) r.members s) ≡ true
 checks r s a h f e =
     let small = proper_small s h in
@@ -196,9 +190,9 @@ settled_holds r s p ms h w d e =
     is_le (total (value_of p) ms) (bound r) (le_of (total (value_of p) ms) (total (high s) ms) (bound r)
     (total_le (value_of p) (high s) ms (each_map (λ m. m.voice < length s) (λ m. value_of p m ≤ℤ high s m) ms (λ m l. high_ge s m (at p m) h (w.each m.voice l)) d)) (le_is (total (high s) ms) (bound r) e))
 
-two_parts : (s p : List ℕ) (ms : List Member) → Small s → Within p s → Declared (length s) ms → total (value_of p) ms ≡ (total (fixed_part s) ms +ℤ total (open_part s p) ms)
+two_parts : (s p : List ℕ) (ms : List Member) → Small s → Within p s → Declared (length s) ms → total (value_of p) ms ≡ (total (placed s) ms +ℤ total (open_part s p) ms)
 two_parts s p ms h w d =
-    total_split (value_of p) (fixed_part s) (open_part s p) ms (each_map (λ m. m.voice < length s) (λ m. value_of p m ≡ (fixed_part s m +ℤ open_part s p m)) ms (λ m l. go m (fixed (at s m)) refl l) d)
+    total_split (value_of p) (placed s) (open_part s p) ms (each_map (λ m. m.voice < length s) (λ m. value_of p m ≡ (placed s m +ℤ open_part s p m)) ms (λ m l. go m (fixed (at s m)) refl l) d)
   where
     go : (m : Member) (b : Bool) → fixed (at s m) ≡ b → m.voice < length s → value_of p m ≡ (cond b (term m (least (at s m))) (pos 0) +ℤ cond b (pos 0) (term m (at p m)))
     go m true f l = ap (term m) (fixed_value s p m.voice h w l f) ∙ sym (+ℤ_idr (term m (least (at s m))))
@@ -206,9 +200,9 @@ two_parts s p ms h w d =
 
 -- the fixed part is no more than 32 times 1,000 times 63
 part_small : (s p : List ℕ) (ms : List Member) → Small s → Within p s → Declared (length s) ms → Each (λ m. nat_le (unsigned_abs m.argument) 1000 ≡ true) ms → length ms ≤ 32
-    → unsigned_abs (total (fixed_part s) ms) ≤ 4000000
+    → unsigned_abs (total (placed s) ms) ≤ 4000000
 part_small s p ms h w d c n =
-    le_trans (total_abs (fixed_part s) 63000 ms (each_both (λ m. m.voice < length s) (λ m. nat_le (unsigned_abs m.argument) 1000 ≡ true) (λ m. unsigned_abs (fixed_part s m) ≤ 63000) ms (λ m l k. go m (fixed (at s m)) refl l k) d c))
+    le_trans (total_abs (placed s) 63000 ms (each_both (λ m. m.voice < length s) (λ m. nat_le (unsigned_abs m.argument) 1000 ≡ true) (λ m. unsigned_abs (placed s m) ≤ 63000) ms (λ m l k. go m (fixed (at s m)) refl l k) d c))
     (omega arith)
   where
     go : (m : Member) (b : Bool) → fixed (at s m) ≡ b → m.voice < length s → nat_le (unsigned_abs m.argument) 1000 ≡ true → unsigned_abs (cond b (term m (least (at s m))) (pos 0)) ≤ 63000
@@ -217,28 +211,22 @@ part_small s p ms h w d c n =
         subst (λ (x : ℕ). x ≤ 63000) (sym (times_abs m.argument (least (at s m)))) (mul-le (unsigned_abs m.argument) (least (at s m)) 1000 63 (leb-true (unsigned_abs m.argument) 1000 k) (omega arith))
     go m false f l k = zero-le
 
-abbrev done : RowData → List ℕ → Bool
-done r s = int_le (total (high s) r.members) (bound r)
-
-abbrev content_of : RowData → List ℕ → ℕ
-content_of r s = unsigned_abs (total (fixed_part s) r.members +ℤ pos 4000000)
-
-projects : (r : RowData) (s t p q : List ℕ) → Fine r s → Twins s t p q
-    → cond (done r s) Settled (Open (content_of r s)) ≡ cond (done r t) Settled (Open (content_of r t))
+projects : (r : RowData) (s t p q : List ℕ) → AcceptedFor linear r s → Twins s t p q
+    → cond (always_within r s) Settled (Open (linear_content r s)) ≡ cond (always_within r t) Settled (Open (linear_content r t))
     → int_le (total (value_of p) r.members) (bound r) ≡ int_le (total (value_of q) r.members) (bound r)
 projects r s t p q a w e =
     let ms = r.members in
     let d = members r s a in
     let dt : Declared (length t) ms = subst (λ (n : ℕ). Declared n ms) w.alike.long d in
-    let mark : done r s ≡ done r t = same_mark (done r s) (done r t) (content_of r s) (content_of r t) e in
-    elim (cases_Bool (done r s)) [
+    let mark : always_within r s ≡ always_within r t = same_mark (always_within r s) (always_within r t) (linear_content r s) (linear_content r t) e in
+    elim (cases_Bool (always_within r s)) [
       | inl k ↦ settled_holds r s p ms w.small_s w.in_s d k ∙ sym (settled_holds r t q ms w.small_t w.in_t dt (sym mark ∙ k))
       | inr k ↦ ap (λ (x : ℤ). int_le x (bound r))
           (two_parts s p ms w.small_s w.in_s d
           ∙ ap₂ ◌+ℤ◌
-          (word (total (fixed_part s) ms) (total (fixed_part t) ms) (part_small s p ms w.small_s w.in_s d (coefficients r s a) (long r s a).1)
+          (word (total (placed s) ms) (total (placed t) ms) (part_small s p ms w.small_s w.in_s d (coefficients r s a) (long r s a).1)
           (part_small t q ms w.small_t w.in_t dt (coefficients r s a) (long r s a).1)
-          (same_content (done r s) (done r t) (content_of r s) (content_of r t) e k (sym mark ∙ k)))
+          (same_content (always_within r s) (always_within r t) (linear_content r s) (linear_content r t) e k (sym mark ∙ k)))
           (total_same (open_part s p) (open_part t q) ms (each_map (λ m. m.voice < length s) (λ m. open_part s p m ≡ open_part t q m) ms (λ m l. one m l) d))
           ∙ sym (two_parts t q ms w.small_t w.in_t dt))
     ]
@@ -262,7 +250,7 @@ cuts_same : (f g : Member → ℕ → Bool) (ms : List Member) (s : List ℕ) �
 cuts_same f g [] s e = refl
 cuts_same f g (m ∷ ms) s e = cuts_same f g ms (cut m.voice (f m) s) e.1 ∙ ap (λ h. cuts g ms (cut m.voice h s)) e.0
 
-turn_more : (r : RowData) (s t : List ℕ) → Fine r s → cuts (within r (s ++ t)) r.members (s ++ t) ≡ cuts (within r s) r.members s ++ t
+turn_more : (r : RowData) (s t : List ℕ) → AcceptedFor linear r s → cuts (within r (s ++ t)) r.members (s ++ t) ≡ cuts (within r s) r.members s ++ t
 turn_more r s t a =
     let ms = r.members in
     let d = members r s a in

@@ -4,15 +4,15 @@ ghost use Rattle.sets.specs.Sets.{has, mask};
 ghost use Rattle.sets.specs.Placings.{changed};
 ghost use Rattle.std.specs.List.{list_all, list_any, count_by};
 ghost use Rattle.rows.specs.Shared.{at, cuts, distinct};
-ghost use Rattle.rows.specs.NewRows.{Constructs, if_few};
+ghost use Rattle.rows.specs.NewRows.{Constructs, if_counted};
 ghost use Rattle.rows.specs.Views.{row_of};
-ghost use Rattle.kinds.specs.Differing.{spares, used, all_different, all_different_row};
+ghost use Rattle.kinds.specs.Differing.{may_stay, fixed_values, all_different, all_different_row};
 ghost use Rattle.kinds.specs.DifferingLaws.{all_different_lawful};
 
-use rows::refusal::KindRefusal;
 use rows::kind::Kind;
 use rows::member::Member;
 use rows::narrowing::{are_declared, is_shaped, judge, keep_only, set_of};
+use rows::refusal::KindRefusal;
 use rows::row::{Row, RowError};
 use rows::trace::Trace;
 use sets::{ValueSet, is_fixed};
@@ -48,7 +48,7 @@ fn is_named(members: &[Member], voice: u16) -> bool
 
 // Where the taker is fixed, takes its value out of the sets of the members with another voice; says whether one lost it.
 fn take_from_others(members: &[Member], taker: Member, sets: &mut [ValueSet]) -> bool
-    ensures after { sets.new ≡ cuts (spares taker (at sets.old taker)) members.now sets.old }
+    ensures after { sets.new ≡ cuts (may_stay taker (at sets.old taker)) members.now sets.old }
     ensures value { result ≡ changed sets.new sets.old }
 {
     let set = set_of(sets, taker.voice);
@@ -67,7 +67,7 @@ fn take_from_others(members: &[Member], taker: Member, sets: &mut [ValueSet]) ->
 // The values that the sets of two members or more have, and the values of the fixed members.
 fn shared_and_placed(members: &[Member], sets: &[ValueSet]) -> (ValueSet, ValueSet)
     ensures shared { result.0 ≡ mask 64 (λ v. nat_lt 1 (count_by (λ m. has (at sets.now m) v) members.now)) }
-    ensures placed { result.1 ≡ used members.now sets.now }
+    ensures placed { result.1 ≡ fixed_values members.now sets.now }
 {
     let mut once = 0;
     let mut shared = 0;
@@ -89,7 +89,7 @@ pub struct AllDifferent;
 impl AllDifferent {
     /// The row with these voices.
     pub fn row(heap: Global, voices: &[u8]) -> Result<Row, RowError>
-        ensures { Constructs (if_few (all_different_row voices.now)) result }
+        ensures { Constructs (if_counted (all_different_row voices.now)) result }
     {
         let mut row = Row::with_count(heap, Self::LETTER, voices.len(), &[])?;
         for voice in voices {

@@ -3,18 +3,18 @@ ghost use Rattle.std.specs.Prelude.{◌≡◌, refl, false, take, position};
 ghost use Rattle.sets.specs.Sets.{mask};
 ghost use Rattle.sets.specs.Placings.{changed};
 ghost use Rattle.std.specs.List.{list_all, list_any};
-ghost use Rattle.rows.specs.NewRows.{Constructs, if_few};
+ghost use Rattle.rows.specs.NewRows.{Constructs, if_counted};
 ghost use Rattle.rows.specs.Reading.{checked};
 ghost use Rattle.rows.specs.declared.row.RowError.TheVariants.{LargeValue};
 ghost use Rattle.rows.specs.Views.{row_of};
 ghost use Rattle.rows.specs.Shared.{cuts};
-ghost use Rattle.kinds.specs.Literals.{says, refuted, certain, stands, in_range, has_value, literal_member, clause_row, clause};
+ghost use Rattle.kinds.specs.Literals.{literal_holds, refuted, certain, may_hold, in_range, has_value, literal_member, clause_row, clause};
 ghost use Rattle.kinds.specs.LiteralsLaws.{clause_lawful};
 
-use rows::refusal::KindRefusal;
 use rows::kind::Kind;
 use rows::member::Member;
 use rows::narrowing::{are_declared, is_shaped, judge, keep_only, set_of};
+use rows::refusal::KindRefusal;
 use rows::row::{Row, RowError};
 use rows::trace::Trace;
 use sets::{ValueSet, single};
@@ -22,7 +22,7 @@ use std::alloc::Global;
 
 // The values that make a literal true.
 fn true_values(literal: Member) -> ValueSet
-    ensures { result ≡ mask 64 (says literal) }
+    ensures { result ≡ mask 64 (literal_holds literal) }
 {
     let argument = u32::from(literal.argument.unsigned_abs());
     if argument < 64 {
@@ -47,8 +47,8 @@ fn is_certain(literal: Member, sets: &[ValueSet]) -> bool
 }
 
 // The place of the first literal that is not refuted.
-fn first_standing(literals: &[Member], sets: &[ValueSet]) -> Option<usize>
-    ensures { result ≡ position (stands sets.now) literals.now }
+fn first_possible(literals: &[Member], sets: &[ValueSet]) -> Option<usize>
+    ensures { result ≡ position (may_hold sets.now) literals.now }
 {
     literals.iter().position(|m| !is_refuted(*m, sets))
 }
@@ -144,7 +144,7 @@ pub struct Clause;
 impl Clause {
     /// The row with these literals, of which one has to be true. A value above 63 is refused, whatever else is wrong.
     pub fn row(heap: Global, literals: &[Literal]) -> Result<Row, RowError>
-        ensures { Constructs (checked (list_all has_value literals.now) LargeValue (if_few (clause_row literals.now))) result }
+        ensures { Constructs (checked (list_all has_value literals.now) LargeValue (if_counted (clause_row literals.now))) result }
     {
         if !have_values(literals) {
             return Err(RowError::LargeValue);
@@ -187,7 +187,7 @@ impl Kind for Clause {
         ensures value { result ≡ changed sets.new sets.old }
     {
         let literals = row.members();
-        let Some(first) = first_standing(literals, sets) else {
+        let Some(first) = first_possible(literals, sets) else {
             return empty_first(literals, sets);
         };
         if !are_refuted(&literals[first + 1..], sets) {

@@ -4,15 +4,15 @@ ghost use Rattle.std.specs.Prelude.{◌≡◌, refl, ◌&&◌, length, if◌then
 ghost use Rattle.sets.specs.Sets.{has, mask, sift};
 ghost use Rattle.std.specs.List.{list_all};
 ghost use Rattle.sets.specs.Placings.{changed};
-ghost use Rattle.rows.specs.NewRows.{Constructs, if_few};
+ghost use Rattle.rows.specs.NewRows.{Constructs, if_counted};
 ghost use Rattle.rows.specs.Views.{row_of};
 ghost use Rattle.kinds.specs.Entries.{index, result_voice, entry, reached, is_entry, element, element_row};
 ghost use Rattle.kinds.specs.EntriesLaws.{element_lawful};
 
-use rows::refusal::KindRefusal;
 use rows::kind::Kind;
 use rows::member::Member;
 use rows::narrowing::{is_shaped, judge, keep_only, set_of};
+use rows::refusal::KindRefusal;
 use rows::row::{Row, RowError};
 use rows::trace::Trace;
 use sets::{ValueSet, contains, only_value, single, take_least};
@@ -102,7 +102,7 @@ pub struct Element;
 impl Element {
     /// The row whose result voice has the entry that the index voice's value names, counted from 0.
     pub fn row(heap: Global, index: u8, held_by: u8, entries: &[u8]) -> Result<Row, RowError>
-        ensures { Constructs (if_few (element_row index held_by entries.now)) result }
+        ensures { Constructs (if_counted (element_row index held_by entries.now)) result }
     {
         let mut row = Row::with_count(heap, Self::LETTER, entries.len(), &[index, held_by])?;
         for entry in entries {

@@ -4,15 +4,15 @@ ghost use Rattle.sets.specs.Sets.{mask, least, greatest};
 ghost use Rattle.sets.specs.Placings.{changed};
 ghost use Rattle.rows.specs.Shared.{at, cut, cuts};
 ghost use Rattle.std.specs.List.{list_all};
-ghost use Rattle.rows.specs.NewRows.{Constructs, if_few};
+ghost use Rattle.rows.specs.NewRows.{Constructs, if_counted};
 ghost use Rattle.rows.specs.Views.{row_of};
 ghost use Rattle.kinds.specs.Sums.{bound as bound_of, low, high, placed, term, total, linear_rule, linear, linear_row, Near};
 ghost use Rattle.kinds.specs.SumsLaws.{linear_lawful};
 
-use rows::refusal::KindRefusal;
 use rows::kind::Kind;
 use rows::member::Member;
 use rows::narrowing::{are_declared, is_shaped, judge, keep_only, set_of};
+use rows::refusal::KindRefusal;
 use rows::row::{MOST_MEMBERS, Row, RowError};
 use rows::trace::Trace;
 use sets::{ValueSet, greatest_value, is_fixed, least_value};
@@ -179,7 +179,7 @@ pub struct Linear;
 impl Linear {
     /// The row with this bound and these terms, each a voice and its coefficient: the sum of coefficient × value is at most the bound.
     pub fn row(heap: Global, bound: i32, terms: &[(u8, i16)]) -> Result<Row, RowError>
-        ensures { Constructs (if_few (linear_row bound terms.now)) result }
+        ensures { Constructs (if_counted (linear_row bound terms.now)) result }
     {
         let mut row = Row::with_count(heap, Self::LETTER, terms.len(), &bound.to_le_bytes())?;
         for (voice, coefficient) in terms {

@@ -1,6 +1,6 @@
 use Rattle.std.proofs.Common.{sym, ap, ◌∙◌}
 use Rattle.std.proofs.lemmas.List.{take_all}
-use Rattle.kinds.specs.Differing.{used}
+use Rattle.kinds.specs.Differing.{fixed_values}
 use Rattle.rows.proofs.Cuts.{Small}
 use Rattle.kinds.proofs.Sharing.{seen_none, seen_more, seen_all}
 use Rattle.kinds.proofs.Taking.{used_none, used_fixed, used_open}
@@ -29,5 +29,5 @@ loop-m-preserved c =
 pub returns : goal.returns
 returns c = record {
   shared = seen_all c.args.members.now c.args.sets.now c.loop-m.m-index c.loop-m.once c.loop-m.shared c.loop-m-test.false c.loop-m.invariant.1;
-  placed = c.loop-m.invariant.0 ∙ ap (λ l. used l c.args.sets.now) (take_all c.loop-m.m-index c.args.members.now c.loop-m-test.false);
+  placed = c.loop-m.invariant.0 ∙ ap (λ l. fixed_values l c.args.sets.now) (take_all c.loop-m.m-index c.args.members.now c.loop-m-test.false);
 }

@@ -2,7 +2,7 @@ use Rattle.std.proofs.Common.{◌-◌, ◌^◌, take, sym, refl, ap, ◌∙◌, 
 use Rattle.std.proofs.lemmas.List.{take_all}
 use Rattle.sets.specs.Placings.{changed}
 use Rattle.sets.specs.Sets.{fixed, has}
-use Rattle.kinds.specs.Differing.{spares}
+use Rattle.kinds.specs.Differing.{may_stay}
 use Rattle.rows.specs.Shared.{at, cuts}
 use Rattle.rows.proofs.Cuts.{Small}
 use Rattle.rows.proofs.Narrowed.{unchanged}
@@ -33,7 +33,7 @@ loop-m-preserved c =
       | then-m-taker w ↦ (
         w.sets-is ∙ other_more m ms i c.set_of-set.result s c.loop-m.sets w.keep_only-lost.new.sets small c.loop-m-test.true c.set_of-set.ensures
             (sym c.if-not-is_fixed.ensures) (λ e. omega arith) c.loop-m.invariant.0 w.keep_only-lost.ensures.after,
-        w.lost-is ∙ flag_more (spares m (at s m)) (take i ms) _ (has (2 ^ 64 - 1 - c.set_of-set.result)) s c.loop-m.sets w.keep_only-lost.new.sets
+        w.lost-is ∙ flag_more (may_stay m (at s m)) (take i ms) _ (has (2 ^ 64 - 1 - c.set_of-set.result)) s c.loop-m.sets w.keep_only-lost.new.sets
             c.loop-m.lost w.keep_only-lost.result small c.loop-m.invariant.0 w.keep_only-lost.ensures.after c.loop-m.invariant.1 w.keep_only-lost.ensures.value
             ∙ ap (λ x. changed x s) (sym w.sets-is),
       )
@@ -45,7 +45,7 @@ loop-m-preserved c =
 
 pub returns : goal.returns
 returns c = record {
-  after = c.loop-m.invariant.0 ∙ ap (λ l. cuts (spares c.args.taker (at c.args.sets.now c.args.taker)) l c.args.sets.now)
+  after = c.loop-m.invariant.0 ∙ ap (λ l. cuts (may_stay c.args.taker (at c.args.sets.now c.args.taker)) l c.args.sets.now)
       (take_all c.loop-m.m-index c.args.members.now c.loop-m-test.false);
   value = c.loop-m.invariant.1;
 }

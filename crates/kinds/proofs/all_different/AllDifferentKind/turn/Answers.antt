@@ -1,6 +1,6 @@
 use Rattle.std.proofs.Common.{get_or, take, sym, refl, ap, ◌∙◌, rules}
 use Rattle.std.proofs.lemmas.List.{take_all}
-use Rattle.kinds.specs.Differing.{spares, takes}
+use Rattle.kinds.specs.Differing.{may_stay, values_taken}
 use Rattle.rows.specs.Shared.{at}
 use Rattle.rows.proofs.Cuts.{Small}
 use Rattle.rows.proofs.Narrowed.{unchanged}
@@ -25,7 +25,7 @@ loop-m-preserved c =
     elim c.if-set_of-shared-ne0.branch [
       | then-set_of-shared-ne0 w ↦ (let t = w.take_from_others-took.new.sets in (
         w.sets-is ∙ takes_more_one ms i first u t c.loop-m-test.true c.loop-m.invariant.0 w.take_from_others-took.ensures.after,
-        w.took-is ∙ takes_flag (spares n (at u n)) ms (take i ms) first u t c.loop-m.took w.take_from_others-took.result small
+        w.took-is ∙ takes_flag (may_stay n (at u n)) ms (take i ms) first u t c.loop-m.took w.take_from_others-took.result small
             c.loop-m.invariant.0 w.take_from_others-took.ensures.after c.loop-m.invariant.1 w.take_from_others-took.ensures.value ∙ ap (λ x. changed x first) (sym w.sets-is),
       ))
       | else-set_of-shared-ne0 w ↦ (
@@ -37,8 +37,8 @@ loop-m-preserved c =
 
 pub returns : goal.returns
 returns c = record {
-  after = c.loop-m.invariant.0 ∙ ap (λ l. takes c.members-members.result.now l c.args.sets.now) (take_all c.loop-m.m-index c.members-members.result.now c.loop-m-test.false)
-      ∙ ap (λ l. takes l l c.args.sets.now) c.members-members.ensures;
+  after = c.loop-m.invariant.0 ∙ ap (λ l. values_taken c.members-members.result.now l c.args.sets.now) (take_all c.loop-m.m-index c.members-members.result.now c.loop-m-test.false)
+      ∙ ap (λ l. values_taken l l c.args.sets.now) c.members-members.ensures;
   value = c.loop-m.invariant.1;
 }
 
@@ -49,4 +49,4 @@ returns-then-shared-placed-eq0 c =
     let none = stable c.members-members.result.now c.shared_and_placed-shared.result.0 c.shared_and_placed-shared.result.1 s small
     c.shared_and_placed-shared.ensures.shared c.shared_and_placed-shared.ensures.placed c.if-shared-placed-eq0.true
     in
-    record { after = sym (ap (λ l. takes l l s) (sym c.members-members.ensures) ∙ none); value = sym (unchanged s) }
+    record { after = sym (ap (λ l. values_taken l l s) (sym c.members-members.ensures) ∙ none); value = sym (unchanged s) }

@@ -1,7 +1,7 @@
 use Rattle.std.proofs.Common.{◌≡◌, ◌||◌, get_or, ap, ◌∙◌, ap₂, rules}
 use Rattle.rows.specs.Views.{row_of}
 use Rattle.sets.specs.Sets.{has, mask, sift}
-use Rattle.kinds.specs.Entries.{reached, resulted, indexed}
+use Rattle.kinds.specs.Entries.{reached, narrow_result, narrow_index}
 use Rattle.rows.proofs.Cuts.{Small}
 use Rattle.kinds.proofs.EntrySteps.{matches, index_cut, result_cut, both_steps}
 use Rattle.kinds.proofs.element.ElementKind.turn.Goals as goal
@@ -23,8 +23,8 @@ returns c =
     let ys_is = c.set_of-2.ensures ∙ ap (λ i. get_or s i 0) c.result_voice-result.ensures in
     let kept_is : kept ≡ sift (matches r.members ys) xs = c.matching-kept.ensures.kept ∙ ap (λ l. sift (matches l ys) xs) same in
     let named_is : named ≡ mask 64 (reached r.members (has kept)) = c.matching-kept.ensures.named ∙ ap (λ l. mask 64 (reached l (has kept))) same in
-    let first : u ≡ indexed r s = c.keep_only.ensures.after ∙ index_cut r s x xs ys kept c.index_voice-index.ensures c.set_of.ensures ys_is kept_is in
-    let second : t ≡ resulted r u =
+    let first : u ≡ narrow_index r s = c.keep_only.ensures.after ∙ index_cut r s x xs ys kept c.index_voice-index.ensures c.set_of.ensures ys_is kept_is in
+    let second : t ≡ narrow_result r u =
     c.keep_only-2.ensures.after ∙ result_cut r s u x y xs ys kept named c.index_voice-index.ensures c.result_voice-result.ensures c.set_of.ensures ys_is kept_is named_is first
     in
-    record { after = second ∙ ap (resulted r) first; value = ap₂ ◌||◌ c.keep_only.ensures.value c.keep_only-2.ensures.value ∙ both_steps r t u s small first second }
+    record { after = second ∙ ap (narrow_result r) first; value = ap₂ ◌||◌ c.keep_only.ensures.value c.keep_only-2.ensures.value ∙ both_steps r t u s small first second }
