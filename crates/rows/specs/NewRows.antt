@@ -19,5 +19,5 @@ Constructs wanted (Err LargeValue) = wanted ≡ Err LargeValue
 Constructs wanted (Err OutOfMemory) = is_ok wanted ≡ true
 
 -- the same of a row whose members are still to come, so many
-abbrev pub Begins : ℕ → RowData → Result Row RowError → Type 0
-Begins count r result = Constructs (checked (allowed_count count) MemberCount (Ok r)) result
+abbrev pub ConstructsHead : ℕ → RowData → Result Row RowError → Type 0
+ConstructsHead count r result = Constructs (checked (allowed_count count) MemberCount (Ok r)) result

@@ -74,7 +74,7 @@ impl From<AllocError> for RowError {
 
 impl Row {
     ghost use Rattle.rows.specs.Bytes.{encode};
-    ghost use Rattle.rows.specs.NewRows.{Begins};
+    ghost use Rattle.rows.specs.NewRows.{ConstructsHead};
     ghost use Rattle.rows.specs.Reading.{with_bytes};
     ghost use Rattle.rows.specs.WrittenRows.{written_row};
     ghost use Rattle.rows.specs.Views.{row_of, blank, with_byte, with_member};
@@ -94,7 +94,7 @@ impl Row {
 
     /// A row with this letter and no members yet, whose body is the count of members to come and then these bytes, as far as a body goes.
     pub fn with_count(heap: Global, letter: u8, count: usize, rest: &[u8]) -> Result<Row, RowError>
-        ensures { Begins count (with_bytes (with_byte (blank letter) count) rest.now) result }
+        ensures { ConstructsHead count (with_bytes (with_byte (blank letter) count) rest.now) result }
     {
         if !(1..=MOST_MEMBERS).contains(&count) {
             return Err(RowError::MemberCount);
