@@ -1,15 +1,13 @@
 -- Lists of sets, one for each voice (variable), and placings (valuations), which give each voice a value.
-use Rattle.std.specs.Prelude.{◌≡◌, ℕ, ◌^◌, ◌<◌, Bool, true, false, not, ◌&&◌, List, [], ◌∷◌, map, length, ◌==◌, nat_eq, slice_index, slice_index_or}
+use Rattle.std.specs.Prelude.{◌≡◌, ℕ, ◌^◌, ◌<◌, Bool, true, not, List, map, length, nat_eq, bytes_eq, slice_index, slice_index_or}
 use Rattle.std.specs.List.{list_all, list_any}
 use Rattle.sets.specs.Sets.{has, fixed, least}
 
--- two lists of numbers are the same; the first is another than the second
+-- two lists of numbers are the same
 abbrev pub same : List ℕ → List ℕ → Bool
-same [] [] = true
-same [] (y ∷ ys) = false
-same (x ∷ xs) [] = false
-same (x ∷ xs) (y ∷ ys) = x == y && same xs ys
+same = bytes_eq
 
+-- the first list is not the second
 abbrev pub changed : List ℕ → List ℕ → Bool
 changed xs ys = not (same xs ys)
 

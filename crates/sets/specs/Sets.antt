@@ -1,10 +1,11 @@
 -- A set of values 0 to 63 (a variable's domain) is a number of 64 bits: bit v is set where the value v is in the set.
-use Rattle.std.specs.Prelude.{ℕ, zero, suc, ◌+◌, ◌-◌, ◌*◌, ◌/◌, ◌%◌, ◌^◌, Bool, cond, ◌&&◌, ◌==◌, count_ones}
+use Rattle.std.specs.Prelude.{ℕ, zero, suc, ◌+◌, ◌-◌, ◌*◌, ◌^◌, Bool, cond, ◌&&◌, ◌==◌, count_ones}
+use Rattle.std.specs.Int.{bit_at}
 use Rattle.std.specs.Int.Count.{count_trailing_zeros, count_leading_zeros}
 
 -- the value v is in the set s
 abbrev pub has : ℕ → ℕ → Bool
-has s v = (s / 2 ^ v) % 2 == 1
+has s v = bit_at s v == 1
 
 -- exactly one value
 abbrev pub fixed : ℕ → Bool
