@@ -3,11 +3,12 @@ use Rattle.std.proofs.Common.{◌≡◌, ℕ, zero, suc, ◌+◌, ◌^◌, ◌<�
 use Rattle.std.proofs.lemmas.List.{append-nil, append_assoc, length-append, length-take, length-take-le, length-drop, take-append-drop, get_or-take, get_or-drop, get_or_past}
 use Rattle.std.proofs.lemmas.Nat.{le_bytes_8}
 use Rattle.std.specs.Int.{w64, to_le_bytes, from_le_bytes}
+use Rattle.std.proofs.lemmas.Grind.{flat_map-append}
 use Rattle.std.proofs.lemmas.Bool.{cases_lt, and_parts, not-false, ltb-true}
 use Rattle.rows.specs.Rows.{RowData, Meaning}
 use Rattle.rows.specs.Laws.{Laws}
 use Rattle.rows.specs.Bytes.{Bytes, head_length, lettered, counted, right_length, marked, Layout, LaidOut, decode, encode}
-use Rattle.rows.proofs.Layouts.{bytes_both_ways}
+use Rattle.rows.proofs.Layouts.{bytes_take, bytes_drop, bytes_both_ways}
 use Rattle.rows.specs.WrittenRows.{written_row}
 use Rattle.rows.proofs.RowBytes.{row_same}
 use Rattle.stores.specs.Behaviours.{Behaviour}
@@ -17,7 +18,7 @@ use Rattle.search.specs.Calls.Call.{declare, post}
 use Rattle.search.specs.Calls.Answer.{done}
 use Rattle.search.specs.Histories.{History, LeadsTo}
 use Rattle.search.proofs.AnyStore.{history_any}
-use Rattle.search.proofs.HistoryFacts.{none_fits, fit}
+use Rattle.search.proofs.HistoryFacts.{none_fits, layout, fit}
 use Rattle.search.proofs.OverEvery.{limits_hold}
 use Rattle.sheets.specs.declared.refusal.Layer.{Layer}
 use Rattle.sheets.specs.Sheets.{voice_record, voice_records, row_records, records, sheet}
@@ -31,12 +32,10 @@ use Rattle.sheets.specs.Loading.{Fills}
 -- ---- one record more
 
 voices_push : (voices : List ℕ) (s : ℕ) → voice_records (voices ++ (s ∷ [])) ≡ voice_records voices ++ voice_record s
-voices_push [] s = append-nil (voice_record s)
-voices_push (x ∷ voices) s = ap (λ (y : List ℕ). voice_record x ++ y) (voices_push voices s) ∙ sym (append_assoc (voice_record x) (voice_records voices) (voice_record s))
+voices_push voices s = flat_map-append voice_record voices (s ∷ [])
 
 rows_push : (rows : List RowData) (r : RowData) → row_records (rows ++ (r ∷ [])) ≡ row_records rows ++ written_row r
-rows_push [] r = append-nil (written_row r)
-rows_push (x ∷ rows) r = ap (λ (y : List ℕ). written_row x ++ y) (rows_push rows r) ∙ sym (append_assoc (written_row x) (row_records rows) (written_row r))
+rows_push rows r = flat_map-append written_row rows (r ∷ []) ∙ ap (λ (y : List ℕ). row_records rows ++ y) (append-nil (written_row r))
 
 records_voice : (voices : List ℕ) (rows : List RowData) (s : ℕ) → rows ≡ [] → records (voices ++ (s ∷ [])) rows ≡ records voices rows ++ voice_record s
 records_voice voices rows s e =
@@ -57,12 +56,6 @@ posted_push h (x ∷ rows) r = posted_push ((post (encode x), done) ∷ h) rows 
 
 -- ---- the bytes of a record
 
-bytes_from : (n : ℕ) (bs : List ℕ) → Bytes bs → Bytes (drop n bs)
-bytes_from n bs b i l = subst (λ (x : ℕ). x < 256) (sym (get_or-drop n bs i 0)) (b (n + i) (omega (arith, l, length-drop n bs)))
-
-bytes_front : (n : ℕ) (bs : List ℕ) → Bytes bs → Bytes (take n bs)
-bytes_front n bs b i l = subst (λ (x : ℕ). x < 256) (sym (get_or-take n bs i 0 (omega (arith, l, length-take n bs)))) (b i (omega (arith, l, length-take n bs)))
-
 byte_anywhere : (bs : List ℕ) → Bytes bs → (i : ℕ) → get_or bs i 0 < 256
 byte_anywhere bs b i =
     elim (cases_lt i (length bs)) [
@@ -72,7 +65,7 @@ byte_anywhere bs b i =
 
 eight : (bs : List ℕ) → 8 ≤ length bs → Bytes bs → to_le_bytes w64 (from_le_bytes w64 (take 8 bs)) ++ drop 8 bs ≡ bs
 eight bs l b =
-    ap (λ (x : List ℕ). x ++ drop 8 bs) (le_bytes_8 (take 8 bs) (from_le_bytes w64 (take 8 bs)) (length-take-le 8 bs l) (byte_anywhere (take 8 bs) (bytes_front 8 bs b)) refl)
+    ap (λ (x : List ℕ). x ++ drop 8 bs) (le_bytes_8 (take 8 bs) (from_le_bytes w64 (take 8 bs)) (length-take-le 8 bs l) (byte_anywhere (take 8 bs) (bytes_take 8 bs b)) refl)
     ∙ take-append-drop 8 bs
 
 voice_bytes : (m : Meaning) (voices : List ℕ) (rows : List RowData) (bs : List ℕ) (s : ℕ) → VoiceHere m voices rows bs s → Bytes bs → voice_record s ++ drop 9 bs ≡ bs
@@ -80,28 +73,18 @@ voice_bytes m voices rows [] s h b = absurd (omega (arith, h.long))
 voice_bytes m voices rows (x ∷ bs) s h b =
     ap (λ (k : ℕ). voice_record k ++ drop 8 bs) (sym h.number)
     ∙ ap (λ (k : ℕ). k ∷ (to_le_bytes w64 (from_le_bytes w64 (take 8 bs)) ++ drop 8 bs)) (sym h.mark)
-    ∙ ap (λ (y : List ℕ). x ∷ y) (eight bs (omega (arith, h.long)) (bytes_from 1 (x ∷ bs) b))
+    ∙ ap (λ (y : List ℕ). x ∷ y) (eight bs (omega (arith, h.long)) (bytes_drop 1 (x ∷ bs) b))
 
 voice_fits_word : (m : Meaning) (voices : List ℕ) (rows : List RowData) (bs : List ℕ) (s : ℕ) → VoiceHere m voices rows bs s → Bytes bs → s < 2 ^ 64
 voice_fits_word m voices rows bs s h b =
     let x = take 8 (drop 1 bs) in
-    let small = byte_anywhere x (bytes_front 8 (drop 1 bs) (bytes_from 1 bs b)) in
+    let small = byte_anywhere x (bytes_take 8 (drop 1 bs) (bytes_drop 1 bs b)) in
     omega (arith, h.number, small 0, small 1, small 2, small 3, small 4, small 5, small 6, small 7)
-
-row_layout : (m : Meaning) (t : Table) (bs : List ℕ) → judged m t (post bs) ≡ Judgement.passes → Layout m bs
-row_layout m t bs j =
-    let f = none_fits (reasons m t (post bs)) j in
-    record {
-      letters = not-false (lettered m bs) f.0;
-      counts = not-false (counted bs) f.1.0;
-      long = not-false (right_length m bs) f.1.1.0;
-      marks = not-false (marked (drop (head_length m bs) bs)) f.1.1.1.0;
-    }
 
 row_bytes : (m : Meaning) (voices : List ℕ) (rows : List RowData) (bs r : List ℕ) → RowHere m voices rows bs r → Bytes bs → (Bytes r) × (encode (decode m r) ≡ r) × (r ++ drop (length r) bs ≡ bs) × LaidOut m (decode m r)
 row_bytes m voices rows bs r h b =
-    let f : Bytes r = subst Bytes (sym h.front) (bytes_front (length r) bs b) in
-    let back = (bytes_both_ways m).1 r f (row_layout m (begun voices rows) r h.passes) in
+    let f : Bytes r = subst Bytes (sym h.front) (bytes_take (length r) bs b) in
+    let back = (bytes_both_ways m).1 r f (layout m (begun voices rows) r h.passes) in
     (f, back.1, ap (λ (x : List ℕ). x ++ drop (length r) bs) h.front ∙ take-append-drop (length r) bs, back.0)
 
 -- a row that passes has a byte
@@ -129,7 +112,7 @@ module _ (b : Behaviour) (m : Meaning) (whole : List ℕ) (w : b.State) where
         placed = omega (arith, R.placed, ap length more, length-append (records voices rows) (voice_record s));
         whole_is = ap (λ (z : List ℕ). z ++ drop 9 bs) more ∙ append_assoc (records voices rows) (voice_record s) (drop 9 bs)
             ∙ ap (λ (z : List ℕ). records voices rows ++ z) (voice_bytes m voices rows bs s V R.bytes) ∙ R.whole_is;
-        bytes = bytes_from 9 bs R.bytes;
+        bytes = bytes_drop 9 bs R.bytes;
         fills = λ g h H.
             let before = posted_after (declared_after h voices) rows in
             let same : (declare s, done) ∷ before ≡ posted_after (declared_after h (voices ++ (s ∷ []))) rows =
@@ -148,7 +131,7 @@ module _ (b : Behaviour) (m : Meaning) (whole : List ℕ) (w : b.State) where
         placed = omega (arith, R.placed, ap length more, length-append (records voices rows) (encode d), ap length f.1);
         whole_is = ap (λ (z : List ℕ). z ++ drop (length r) bs) more ∙ append_assoc (records voices rows) (encode d) (drop (length r) bs)
             ∙ ap (λ (z : List ℕ). records voices rows ++ z) (ap (λ (z : List ℕ). z ++ drop (length r) bs) f.1 ∙ f.2) ∙ R.whole_is;
-        bytes = bytes_from (length r) bs R.bytes;
+        bytes = bytes_drop (length r) bs R.bytes;
         fills = λ g h H.
             let before = posted_after (declared_after h voices) rows in
             let same : (post r, done) ∷ before ≡ posted_after (declared_after h voices) (rows ++ (d ∷ [])) =
