@@ -28,12 +28,12 @@ bytes_append : (xs ys : List ℕ) → Bytes xs → Bytes ys → Bytes (xs ++ ys)
 bytes_append [] ys a b = b
 bytes_append (x ∷ xs) ys a b = bytes_cons x (xs ++ ys) (a 0 (omega arith)) (bytes_append xs ys (bytes_tail x xs a) b)
 
-bytes_take : (n : ℕ) (bs : List ℕ) → Bytes bs → Bytes (take n bs)
+pub bytes_take : (n : ℕ) (bs : List ℕ) → Bytes bs → Bytes (take n bs)
 bytes_take zero bs h = bytes_nil
 bytes_take (suc n) [] h = bytes_nil
 bytes_take (suc n) (b ∷ bs) h = bytes_cons b (take n bs) (h 0 (omega arith)) (bytes_take n bs (bytes_tail b bs h))
 
-bytes_drop : (n : ℕ) (bs : List ℕ) → Bytes bs → Bytes (drop n bs)
+pub bytes_drop : (n : ℕ) (bs : List ℕ) → Bytes bs → Bytes (drop n bs)
 bytes_drop zero bs h = h
 bytes_drop (suc n) [] h = h
 bytes_drop (suc n) (b ∷ bs) h = bytes_drop n bs (bytes_tail b bs h)
