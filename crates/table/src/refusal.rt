@@ -1,36 +1,40 @@
-// Why a call is declined.
-ghost use Rattle.std.specs.Prelude.{◌≡◌, Some, decimal};
-ghost use Rattle.table.specs.Refusals.{refusal_number};
+// Why a call is refused.
+ghost use Rattle.std.specs.Prelude.{◌≡◌, Some};
+ghost use Rattle.table.specs.Refusals.{refusal_number, refusal_message};
 ghost use Rattle.table.specs.declared.refusal.Refusal.TheVariants.{Row};
 
 use rows::refusal::RowRefusal;
 use std::error::Error;
 use std::fmt;
 
+/// Why a call of a table is refused.
 #[derive(Clone, Copy, Debug, PartialEq, Eq)]
 pub enum Refusal {
-    // Post: the bytes are no row, or the row's kind declines it
+    /// Post: the bytes are no row, or the row's kind refuses it.
     Row(RowRefusal),
-    // Declare: the set has no value; there are as many voices as there can be
+    /// Declare: the set has no value.
     EmptySet,
+    /// Declare: there are as many voices as there can be.
     VoicesFull,
-    // Post: there are as many rows, or bytes of rows, as there can be
+    /// Post: there are as many rows, or bytes of rows, as there can be.
     RowsFull,
-    // Solve: the budget is not 1 to 1,000,000; with it the search could open more nodes than it may
+    /// Solve: the budget is not 1 to 1,000,000.
     BudgetRange,
+    /// Solve: with this budget the search could open more nodes than it may.
     NodesSpent,
-    // Read: nothing was found; the buffer is shorter than what was found
+    /// Read: nothing was found.
     NothingFound,
+    /// Read: the buffer is shorter than what was found.
     ShortBuffer,
 }
 
 impl Refusal {
-    // The refusal's number.
+    /// The number that reports and calls have for it.
     pub fn number(self) -> u8
         ensures { result ≡ refusal_number self }
     {
         match self {
-            Refusal::Row(fault) => fault.number(),
+            Refusal::Row(refusal) => refusal.number(),
             Refusal::EmptySet => 10,
             Refusal::VoicesFull => 11,
             Refusal::RowsFull => 12,
@@ -40,22 +44,38 @@ impl Refusal {
             Refusal::ShortBuffer => 16,
         }
     }
+
+    /// What is wrong, in words.
+    pub fn message(self) -> &'static str
+        ensures { result.now ≡ refusal_message self }
+    {
+        match self {
+            Refusal::Row(refusal) => refusal.message(),
+            Refusal::EmptySet => "the voice's set has no value",
+            Refusal::VoicesFull => "the table has as many voices as it can have",
+            Refusal::RowsFull => "the table has as many rows, or bytes of rows, as it can have",
+            Refusal::BudgetRange => "the budget is not 1 to 1,000,000",
+            Refusal::NodesSpent => "with this budget the search could open more nodes than it may",
+            Refusal::NothingFound => "nothing was found",
+            Refusal::ShortBuffer => "the buffer is too short",
+        }
+    }
 }
 
-// A refusal is printed as its number.
+/// In words; `number` has the number.
 impl fmt::Display for Refusal {
-    ghost output = { λ refusal. Some (decimal (refusal_number refusal)) };
+    ghost output = { λ refusal. Some (refusal_message refusal) };
 
     fn fmt<W: fmt::Write>(&self, f: &mut fmt::Formatter<W>) -> fmt::Result {
-        let number = self.number();
-        write!(f, "{number}")
+        let message = self.message();
+        f.write_str(message)
     }
 }
 
 impl Error for Refusal {}
 
 impl From<RowRefusal> for Refusal {
-    ghost from_gives = { λ fault r. r ≡ Row fault };
+    ghost from_gives = { λ refusal r. r ≡ Row refusal };
 
     fn from(cause: RowRefusal) -> Refusal {
         Refusal::Row(cause)
