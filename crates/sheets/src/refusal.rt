@@ -1,7 +1,7 @@
 // Why a sheet is refused.
 ghost use Rattle.std.specs.Prelude.{◌≡◌, Some};
 ghost use Rattle.sheets.specs.declared.refusal.RecordRefusal.TheVariants.{ByTable};
-ghost use Rattle.sheets.specs.Causes.{layer_name, cause_number, cause_layer, cause_offset, cause_text, sheet_refusal_text};
+ghost use Rattle.sheets.specs.Causes.{layer_name, cause_number, cause_layer, cause_offset, cause_message, sheet_refusal_message};
 
 use std::error::Error;
 use std::fmt;
@@ -52,7 +52,7 @@ pub enum RecordRefusal {
 }
 
 impl RecordRefusal {
-    /// The refusal's number. With the layer it says what is wrong.
+    /// The number that reports have for it. With the layer it says what is wrong.
     pub fn number(self) -> u8
         ensures { result ≡ cause_number self }
     {
@@ -62,6 +62,19 @@ impl RecordRefusal {
             RecordRefusal::Trailing => 4,
             RecordRefusal::CutVoice => 6,
             RecordRefusal::ByTable(refusal) => refusal.number(),
+        }
+    }
+
+    /// What is wrong, in words.
+    pub fn message(self) -> &'static str
+        ensures { result.now ≡ cause_message self }
+    {
+        match self {
+            RecordRefusal::NoRecord => "the bytes end where a record should begin",
+            RecordRefusal::LateVoice => "a voice follows a row",
+            RecordRefusal::Trailing => "bytes follow the sheet's end",
+            RecordRefusal::CutVoice => "the bytes end inside a voice",
+            RecordRefusal::ByTable(refusal) => refusal.message(),
         }
     }
 
@@ -87,18 +100,13 @@ impl RecordRefusal {
     }
 }
 
-// What is wrong, in words.
+/// In words; `number` has the number.
 impl fmt::Display for RecordRefusal {
-    ghost output = { λ cause. Some (cause_text cause) };
+    ghost output = { λ cause. Some (cause_message cause) };
 
     fn fmt<W: fmt::Write>(&self, f: &mut fmt::Formatter<W>) -> fmt::Result {
-        match self {
-            RecordRefusal::NoRecord => f.write_str("the bytes end where a record should begin"),
-            RecordRefusal::LateVoice => f.write_str("a voice follows a row"),
-            RecordRefusal::Trailing => f.write_str("bytes follow the sheet's end"),
-            RecordRefusal::CutVoice => f.write_str("the bytes end inside a voice"),
-            RecordRefusal::ByTable(refusal) => write!(f, "the table refuses it: {refusal}"),
-        }
+        let message = self.message();
+        f.write_str(message)
     }
 }
 
@@ -120,9 +128,9 @@ pub struct SheetRefusal {
     pub place: usize,
 }
 
-// What is wrong and where, in words.
+/// In words, with the place: as `a voice follows a row, at byte 15`.
 impl fmt::Display for SheetRefusal {
-    ghost output = { λ refusal. Some (sheet_refusal_text refusal) };
+    ghost output = { λ refusal. Some (sheet_refusal_message refusal) };
 
     fn fmt<W: fmt::Write>(&self, f: &mut fmt::Formatter<W>) -> fmt::Result {
         let SheetRefusal { cause, place } = *self;
