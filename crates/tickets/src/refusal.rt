@@ -1,6 +1,6 @@
 // Why a call that builds a row is refused.
 ghost use Rattle.std.specs.Prelude.{◌≡◌, Some};
-ghost use Rattle.tickets.specs.Refusals.{ticket_refusal_number, ticket_refusal_text};
+ghost use Rattle.tickets.specs.Refusals.{ticket_refusal_number, ticket_refusal_message};
 
 use std::error::Error;
 use std::fmt;
@@ -26,7 +26,7 @@ pub enum TicketRefusal {
 }
 
 impl TicketRefusal {
-    /// The refusal's number. A short memory has that of a wrong length.
+    /// The number that calls have for it. A short memory has that of a wrong length.
     pub fn number(self) -> u8
         ensures { result ≡ ticket_refusal_number self }
     {
@@ -40,22 +40,30 @@ impl TicketRefusal {
             TicketRefusal::Post(refusal) => refusal.number(),
         }
     }
+
+    /// What is wrong, in words.
+    pub fn message(self) -> &'static str
+        ensures { result.now ≡ ticket_refusal_message self }
+    {
+        match self {
+            TicketRefusal::UnknownLetter => "the bank has no kind with this letter",
+            TicketRefusal::BadCount => "the count of members is missing or not 1 to 32",
+            TicketRefusal::WrongLength => "the body has not the length that its letter asks for",
+            TicketRefusal::ShortMemory => "the memory is shorter than the row",
+            TicketRefusal::AllGiven => "the row has all its members",
+            TicketRefusal::MembersMissing => "the row lacks members",
+            TicketRefusal::Post(refusal) => refusal.message(),
+        }
+    }
 }
 
-// The refusal in words.
+/// In words; `number` has the number.
 impl fmt::Display for TicketRefusal {
-    ghost output = { λ refusal. Some (ticket_refusal_text refusal) };
+    ghost output = { λ refusal. Some (ticket_refusal_message refusal) };
 
     fn fmt<W: fmt::Write>(&self, f: &mut fmt::Formatter<W>) -> fmt::Result {
-        match self {
-            TicketRefusal::UnknownLetter => f.write_str("the bank has no kind with this letter"),
-            TicketRefusal::BadCount => f.write_str("the count of members is not 1 to 32"),
-            TicketRefusal::WrongLength => f.write_str("the body's length is not the letter's"),
-            TicketRefusal::ShortMemory => f.write_str("the memory is shorter than the row"),
-            TicketRefusal::AllGiven => f.write_str("the row has all its members"),
-            TicketRefusal::MembersMissing => f.write_str("the row lacks members"),
-            TicketRefusal::Post(refusal) => write!(f, "Post refuses the row: {refusal}"),
-        }
+        let message = self.message();
+        f.write_str(message)
     }
 }
 
