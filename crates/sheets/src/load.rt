@@ -13,7 +13,8 @@ use std::alloc::{AllocError, Global};
 use stores::store::Store;
 use table::Table;
 
-// The bytes of the row at the front: as many as letter and count ask for, or all where they are fewer or the bank does not know the letter.
+// The bytes of the row at the front: as many as letter and count ask for, or all where they are
+// fewer or the bank does not know the letter.
 fn front_row<B: Bank>(bytes: &[u8]) -> &[u8]
     ensures { result.now ≡ front_row B.Bank.meaning bytes.now }
 {
@@ -28,16 +29,21 @@ fn front_row<B: Bank>(bytes: &[u8]) -> &[u8]
     &bytes[..length.min(bytes.len())]
 }
 
-// That the search has not begun is asked by each of the three functions that read a record: a struct over the lent table that knew it would have to say in
-// each of them that it lends the same table, which is one clause for another; and of all three in one function the check did not end in ten minutes.
+// Each of the three functions that read a record requires that the search has not begun: a struct
+// over the borrowed table that knew it would have to say in each of them that it borrows the same
+// table, which is one clause for another; and of all three in one function the check did not end in
+// ten minutes.
 
-// Declares the voice whose record, after its first byte, stands at the front, and answers how long the record is.
+// Declares the voice whose record, after its first byte, is at the front. Returns the record's
+// length.
 fn read_voice<B: Bank, S: Store>(
     table: &mut Table<B, S>,
     rest: &[u8],
 ) -> Result<Option<usize>, RecordRefusal>
     requires { Unsearched (model table.old) }
-    ensures { RecordRead S.Store.behaviour B.Bank.meaning (model table.old) (store_in table.old) (read_voice B.Bank.meaning (model table.old).voices (model table.old).rows rest.now) result (model table.new) (store_in table.new) }
+    ensures { RecordRead S.Store.behaviour B.Bank.meaning (model table.old) (store_in table.old)
+        (read_voice B.Bank.meaning (model table.old).voices (model table.old).rows rest.now)
+        result (model table.new) (store_in table.new) }
 {
     if !table.rows().is_empty() {
         return Err(RecordRefusal::LateVoice);
@@ -49,26 +55,31 @@ fn read_voice<B: Bank, S: Store>(
     Ok(Some(9))
 }
 
-// Posts the row at the front, and answers how long it is.
+// Posts the row at the front, and returns its length.
 fn read_row<B: Bank, S: Store>(
     table: &mut Table<B, S>,
     bytes: &[u8],
 ) -> Result<Option<usize>, RecordRefusal>
     requires { Unsearched (model table.old) }
-    ensures { RecordRead S.Store.behaviour B.Bank.meaning (model table.old) (store_in table.old) (read_row B.Bank.meaning (model table.old).voices (model table.old).rows bytes.now) result (model table.new) (store_in table.new) }
+    ensures { RecordRead S.Store.behaviour B.Bank.meaning (model table.old) (store_in table.old)
+        (read_row B.Bank.meaning (model table.old).voices (model table.old).rows bytes.now)
+        result (model table.new) (store_in table.new) }
 {
     let row = front_row::<B>(bytes);
     table.post(row)?;
     Ok(Some(row.len()))
 }
 
-// Makes the call that the record at the front stands for, and answers how long the record is; none where the sheet ends.
+// Makes the call that the record at the front stands for, and returns the record's length; none
+// where the sheet ends.
 fn read_record<B: Bank, S: Store>(
     table: &mut Table<B, S>,
     bytes: &[u8],
 ) -> Result<Option<usize>, RecordRefusal>
     requires { Unsearched (model table.old) }
-    ensures { RecordRead S.Store.behaviour B.Bank.meaning (model table.old) (store_in table.old) (read_record B.Bank.meaning (model table.old).voices (model table.old).rows bytes.now) result (model table.new) (store_in table.new) }
+    ensures { RecordRead S.Store.behaviour B.Bank.meaning (model table.old) (store_in table.old)
+        (read_record B.Bank.meaning (model table.old).voices (model table.old).rows bytes.now)
+        result (model table.new) (store_in table.new) }
 {
     match bytes {
         [] => Err(RecordRefusal::NoRecord),
@@ -85,7 +96,8 @@ fn read_records<B: Bank, S: Store>(
     bytes: &[u8],
 ) -> Result<(), SheetRefusal>
     requires { model table.old ≡ empty }
-    ensures { RecordsRead S.Store.behaviour B.Bank.meaning bytes.now (store_in table.old) (model table.new) (store_in table.new) (read_sheet B.Bank.meaning bytes.now) result }
+    ensures { RecordsRead S.Store.behaviour B.Bank.meaning bytes.now (store_in table.old)
+        (model table.new) (store_in table.new) (read_sheet B.Bank.meaning bytes.now) result }
 {
     let mut rest = bytes;
     loop {
@@ -100,7 +112,7 @@ fn read_records<B: Bank, S: Store>(
     }
 }
 
-// Leaves no voices and no rows where the sheet was declined.
+// Leaves no voices and no rows where the sheet was refused.
 fn wipe_declined<B: Bank, S: Store>(table: &mut Table<B, S>, res: &Result<(), SheetRefusal>)
     ensures declined { is_err res.now ≡ true → CallDone table.old Call.wipe Answer.done table.new }
     ensures accepted { is_err res.now ≡ false → table.new ≡ table.old }
