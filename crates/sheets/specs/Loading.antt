@@ -47,8 +47,8 @@ table_after (refused n place layer) = empty
 
 -- After the calls h, over a store that was in the state g when the table was made, the records of a
 -- sheet that comes to this have led to the table u and the state r: by its Declares and Posts, all
--- accepted; where it is declined, by those of the records before the first fault, and a Wipe. No key
--- is lost then, since each of these calls empties the store.
+-- accepted; where it is declined, by those of the records before the first fault, and a Wipe. No
+-- key is lost then, since each of these calls empties the store.
 abbrev pub FillHistory : (b : Behaviour) (m : Meaning) (g : b.State) (h : List (Call × Answer))
     (bytes : List ℕ) → SheetReading → Table → b.State → Type 0
 FillHistory b m g h bytes (accepted voices rows) u r =
@@ -58,13 +58,15 @@ FillHistory b m g h bytes (refused number place layer) u r =
     × LeadsTo b m g ((wipe, done) ∷ posted_after (declared_after h first.voices) first.rows) u r 0
 
 -- a Load is a Wipe, and then these
-abbrev pub LoadHistory : (b : Behaviour) (m : Meaning) (g : b.State) (h : List (Call × Answer)) (bytes : List ℕ) → SheetReading → Table → b.State → Type 0
+abbrev pub LoadHistory : (b : Behaviour) (m : Meaning) (g : b.State) (h : List (Call × Answer))
+    (bytes : List ℕ) → SheetReading → Table → b.State → Type 0
 LoadHistory b m g h = FillHistory b m g ((wipe, done) ∷ h)
 
 -- Whatever the table was, over its store in the state s: it is that of the sheet's voices and rows,
 -- or an empty one, its search not begun; and it is with its store as if it had been made over that
 -- store, and then so filled.
-pub record LoadLeaves (b : Behaviour) (m : Meaning) (bytes : List ℕ) (s : b.State) (u : Table) (r : b.State) : Type 0 where
+pub record LoadLeaves (b : Behaviour) (m : Meaning) (bytes : List ℕ) (s : b.State)
+    (u : Table) (r : b.State) : Type 0 where
   pub table : u ≡ table_after (read_sheet m bytes)
   pub history : FillHistory b m s [] bytes (read_sheet m bytes) u r
   pub invariant : Invariant m 0 u (b.view r)
@@ -138,7 +140,8 @@ RecordStored b (row bs) s r = b.empties s r
 RecordStored b (fault number offset layer) s r = r ≡ s
 
 -- a record is read: the answer, and the table and the store then
-pub record RecordRead (b : Behaviour) (m : Meaning) (t : Table) (s : b.State) (i : RecordReading) (res : Result (Option ℕ) RecordRefusal) (u : Table) (r : b.State) : Type 0 where
+pub record RecordRead (b : Behaviour) (m : Meaning) (t : Table) (s : b.State) (i : RecordReading)
+    (res : Result (Option ℕ) RecordRefusal) (u : Table) (r : b.State) : Type 0 where
   pub answer : record_answer res ≡ reading_record_answer i
   pub table : u ≡ record_table m t.voices t.rows i
   pub store : RecordStored b i s r
@@ -146,14 +149,20 @@ pub record RecordRead (b : Behaviour) (m : Meaning) (t : Table) (s : b.State) (i
 -- Whatever the calls were that led to an empty table and the state s, in which no key was lost: with
 -- a Declare for each of these voices and a Post for each of these rows, all accepted, they lead to a
 -- table with these, its search not begun, and the state r, in which no key was lost.
-abbrev pub Fills : (b : Behaviour) (m : Meaning) (s : b.State) (voices : List ℕ) (rows : List RowData) → b.State → Type 0
+abbrev pub Fills : (b : Behaviour) (m : Meaning) (s : b.State)
+    (voices : List ℕ) (rows : List RowData) → b.State → Type 0
 Fills b m s voices rows r =
     (g : b.State) (h : List (Call × Answer)) → LeadsTo b m g h empty s 0
     → LeadsTo b m g (posted_after (declared_after h voices) rows) (begun voices rows) r 0
 
 -- all records are read, up to the sheet's end or its first fault
-pub data RecordsRead (b : Behaviour) (m : Meaning) (bytes : List ℕ) (s : b.State) (u : Table) (r : b.State) : SheetReading → Result Unit SheetRefusal → Type 0 where
-  ended : (voices : List ℕ) (rows : List RowData) → u ≡ begun voices rows → Fills b m s voices rows r → RecordsRead b m bytes s u r (accepted voices rows) (Ok tt)
-  faulted : (cause : RecordRefusal) (place : ℕ) (first : FirstFault m bytes (cause_number cause) place (cause_layer cause)) → u ≡ begun first.voices first.rows
+pub data RecordsRead (b : Behaviour) (m : Meaning) (bytes : List ℕ) (s : b.State)
+    (u : Table) (r : b.State) : SheetReading → Result Unit SheetRefusal → Type 0 where
+  ended : (voices : List ℕ) (rows : List RowData) → u ≡ begun voices rows
+      → Fills b m s voices rows r → RecordsRead b m bytes s u r (accepted voices rows) (Ok tt)
+  faulted : (cause : RecordRefusal) (place : ℕ)
+      (first : FirstFault m bytes (cause_number cause) place (cause_layer cause))
+      → u ≡ begun first.voices first.rows
       → Fills b m s first.voices first.rows r
-      → RecordsRead b m bytes s u r (refused (cause_number cause) place (cause_layer cause)) (Err (record { cause = cause; place = place }))
+      → RecordsRead b m bytes s u r (refused (cause_number cause) place (cause_layer cause))
+      (Err (record { cause = cause; place = place }))

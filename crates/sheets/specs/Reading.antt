@@ -1,4 +1,5 @@
--- Reading a sheet: record after record, each judged beside the voices and rows of the records before it.
+-- Reading a sheet: record after record, each judged beside the voices and rows of the records
+-- before it.
 use Rattle.std.specs.Prelude.{ℕ, zero, suc, ◌+◌, ◌*◌, cond, List, [], ◌∷◌, ◌++◌, length, take, drop, ◌==◌, nat_lt}
 use Rattle.std.specs.Int.{w64, from_le_bytes}
 use Rattle.rows.specs.Rows.{RowData, Meaning}
@@ -10,8 +11,8 @@ use Rattle.sheets.specs.Causes.{layer_of}
 
 -- ---- one record
 
--- What stands at the front of bytes: the sheet's end; a voice with this opening set; a row of these bytes; or a fault, by its number, how far from here
--- its place is, and its layer.
+-- What stands at the front of bytes: the sheet's end; a voice with this opening set; a row of these
+-- bytes; or a fault, by its number, how far from here its place is, and its layer.
 pub data RecordReading : Type 0 where
   last : RecordReading
   voice : ℕ → RecordReading
@@ -28,25 +29,30 @@ abbrev pub read_end : List ℕ → RecordReading
 read_end [] = last
 read_end (b ∷ bs) = fault 4 1 Sheet
 
--- hex 56, with what follows it, after these voices and rows: no row may stand before it, and the set has 8 bytes
+-- hex 56, with what follows it, after these voices and rows: no row may stand before it, and the
+-- set has 8 bytes
 abbrev pub read_voice : Meaning → List ℕ → List RowData → List ℕ → RecordReading
 read_voice m voices (r ∷ rows) bs = fault 3 0 Sheet
 read_voice m voices [] bs =
     cond (nat_lt (length bs) 8) (fault 6 0 Sheet)
-    (if_passes (judge (voice_reasons voices (from_le_bytes w64 (take 8 bs)))) (voice (from_le_bytes w64 (take 8 bs))))
+    (if_passes (judge (voice_reasons voices (from_le_bytes w64 (take 8 bs))))
+    (voice (from_le_bytes w64 (take 8 bs))))
 
--- the bytes of the row at the front: as many as letter and count ask for, or all where they are fewer or the bank does not know the letter
+-- the bytes of the row at the front: as many as letter and count ask for, or all where they are
+-- fewer or the bank does not know the letter
 abbrev pub front_row : Meaning → List ℕ → List ℕ
 front_row m bs = cond (lettered m bs) (take (head_length m bs + 4 * count_byte bs) bs) bs
 
 abbrev pub read_row : Meaning → List ℕ → List RowData → List ℕ → RecordReading
-read_row m voices rows bs = if_passes (judge (row_reasons m voices rows (front_row m bs))) (row (front_row m bs))
+read_row m voices rows bs =
+    if_passes (judge (row_reasons m voices rows (front_row m bs))) (row (front_row m bs))
 
 -- what stands at the front of these bytes, after the records of these voices and rows
 abbrev pub read_record : Meaning → List ℕ → List RowData → List ℕ → RecordReading
 read_record m voices rows [] = fault 1 0 Sheet
 read_record m voices rows (b ∷ bs) =
-    cond (b == 0x5A) (read_end bs) (cond (b == 0x56) (read_voice m voices rows bs) (read_row m voices rows (b ∷ bs)))
+    cond (b == 0x5A) (read_end bs)
+    (cond (b == 0x56) (read_voice m voices rows bs) (read_row m voices rows (b ∷ bs)))
 
 -- ---- all records
 
@@ -55,17 +61,21 @@ pub data SheetReading : Type 0 where
   accepted : List ℕ → List RowData → SheetReading
   refused : ℕ → ℕ → Layer → SheetReading
 
--- what this at the front comes to, at the place `at`, after the records of these voices and rows; `next` says what all comes to that follows it
-abbrev pub read_on : Meaning → (ℕ → List ℕ → List RowData → List ℕ → SheetReading) → ℕ → List ℕ → List RowData → List ℕ → RecordReading → SheetReading
+-- what this at the front comes to, at the place `at`, after the records of these voices and rows;
+-- `next` says what all comes to that follows it
+abbrev pub read_on : Meaning → (ℕ → List ℕ → List RowData → List ℕ → SheetReading)
+    → ℕ → List ℕ → List RowData → List ℕ → RecordReading → SheetReading
 read_on m next at voices rows bs last = accepted voices rows
 read_on m next at voices rows bs (voice s) = next (at + 9) (voices ++ (s ∷ [])) rows (drop 9 bs)
-read_on m next at voices rows bs (row r) = next (at + length r) voices (rows ++ (decode m r ∷ [])) (drop (length r) bs)
+read_on m next at voices rows bs (row r) =
+    next (at + length r) voices (rows ++ (decode m r ∷ [])) (drop (length r) bs)
 read_on m next at voices rows bs (fault k offset layer) = refused k (at + offset) layer
 
 -- record after record; the number bounds them, and each has a byte or more
 abbrev pub read_from : Meaning → ℕ → ℕ → List ℕ → List RowData → List ℕ → SheetReading
 read_from m zero at voices rows bs = refused 1 at Sheet
-read_from m (suc n) at voices rows bs = read_on m (read_from m n) at voices rows bs (read_record m voices rows bs)
+read_from m (suc n) at voices rows bs =
+    read_on m (read_from m n) at voices rows bs (read_record m voices rows bs)
 
 abbrev pub read_sheet : Meaning → List ℕ → SheetReading
 read_sheet m bs = read_from m (suc (length bs)) 0 [] [] bs

@@ -26,9 +26,12 @@ abbrev pub LoadsAgain : (b : Behaviour) → Meaning → calls.Table → b.State 
 LoadsAgain b m t v = (g : b.State) (h : List (Call × Answer)) → History b m g h t v
     → read_sheet m (sheet t.voices t.rows) ≡ accepted t.voices t.rows
 
--- Bytes written at the front of a buffer: how many, or that it is too short; and the buffer then, as it was beyond them, or all of it as it was.
+-- Bytes written at the front of a buffer: how many, or that it is too short; and the buffer then,
+-- as it was beyond them, or all of it as it was.
 abbrev pub written_answer : List ℕ → List ℕ → Result ℕ Refusal
-written_answer bytes buffer = cond (nat_le (length bytes) (length buffer)) (Ok (length bytes)) (Err ShortBuffer)
+written_answer bytes buffer =
+    cond (nat_le (length bytes) (length buffer)) (Ok (length bytes)) (Err ShortBuffer)
 
 abbrev pub buffer_after : List ℕ → List ℕ → List ℕ
-buffer_after bytes buffer = cond (nat_le (length bytes) (length buffer)) (bytes ++ drop (length bytes) buffer) buffer
+buffer_after bytes buffer =
+    cond (nat_le (length bytes) (length buffer)) (bytes ++ drop (length bytes) buffer) buffer

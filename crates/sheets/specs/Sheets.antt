@@ -1,4 +1,5 @@
--- A sheet, a table's voices and rows as bytes: for each voice hex 56 and its opening set in 8 bytes, low byte first; then the rows; then hex 5A.
+-- A sheet, a table's voices and rows as bytes: for each voice hex 56 and its opening set in 8
+-- bytes, low byte first; then the rows; then hex 5A.
 use Rattle.std.specs.Prelude.{ℕ, List, [], ◌∷◌, ◌++◌, flat_map}
 use Rattle.std.specs.Int.{w64, to_le_bytes}
 use Rattle.rows.specs.Rows.{RowData}

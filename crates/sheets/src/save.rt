@@ -10,7 +10,8 @@ use stores::store::Store;
 use table::Table;
 use table::refusal::Refusal;
 
-/// Writes the table's sheet at the front of `out` and returns its length in bytes; bytes beyond it stay.
+/// Writes the table's sheet at the front of `out` and returns its length in bytes; bytes beyond it
+/// stay.
 pub fn save<B: Bank, S: Store>(table: &Table<B, S>, out: &mut [u8]) -> Result<usize, Refusal>
     ensures value { result ≡ written_answer (sheet_of table.now) out.old }
     ensures after { out.new ≡ buffer_after (sheet_of table.now) out.old }
