@@ -38,7 +38,8 @@ TicketVerdict = Result Unit TicketRefusal
 abbrev pub row_fits : Ticket → ℕ → Bool
 row_fits t room = nat_le (row_length t) room
 
--- Begin: the bank knows the letter, the count is there and is 1 to 32, the body is as long as the letter asks, and the row fits
+-- Begin: the bank knows the letter, the count is there and is 1 to 32, the body is as long as the
+-- letter asks, and the row fits
 abbrev pub begin_verdict : Meaning → ℕ → List ℕ → ℕ → TicketVerdict
 begin_verdict m letter body room =
     checked (m.known letter) UnknownLetter
@@ -48,11 +49,13 @@ begin_verdict m letter body room =
 
 -- Member: the row fits, and not all members are given
 abbrev pub member_verdict : Ticket → ℕ → TicketVerdict
-member_verdict t room = checked (row_fits t room) ShortMemory (checked (nat_lt t.given t.count) AllGiven (Ok tt))
+member_verdict t room =
+    checked (row_fits t room) ShortMemory (checked (nat_lt t.given t.count) AllGiven (Ok tt))
 
 -- Close: the row fits, and no member is missing
 abbrev pub close_verdict : Ticket → ℕ → TicketVerdict
-close_verdict t room = checked (row_fits t room) ShortMemory (checked (nat_le t.count t.given) MembersMissing (Ok tt))
+close_verdict t room =
+    checked (row_fits t room) ShortMemory (checked (nat_le t.count t.given) MembersMissing (Ok tt))
 
 -- ---- Begin
 
@@ -63,12 +66,14 @@ ticket_or_refusal (Err refusal) t = Err refusal
 
 -- what Begin returns
 abbrev pub begin_result : Meaning → ℕ → List ℕ → ℕ → Result Ticket TicketRefusal
-begin_result m letter body room = ticket_or_refusal (begin_verdict m letter body room) (new_ticket body)
+begin_result m letter body room =
+    ticket_or_refusal (begin_verdict m letter body room) (new_ticket body)
 
 -- the memory afterwards: letter and body at its front
 abbrev pub begin_memory : Meaning → ℕ → List ℕ → List ℕ → List ℕ
 begin_memory m letter body memory =
-    cond (is_ok (begin_verdict m letter body (length memory))) (written 0 (letter ∷ body) memory) memory
+    cond (is_ok (begin_verdict m letter body (length memory)))
+    (written 0 (letter ∷ body) memory) memory
 
 -- ---- Member
 
@@ -85,4 +90,5 @@ member_result t room = advanced_or_back (member_verdict t room) t
 abbrev pub member_memory : Ticket → ℕ → ℤ → List ℕ → List ℕ
 member_memory t voice argument memory =
     cond (is_ok (member_verdict t (length memory)))
-    (written (next_place t) (written_member (record { voice = voice; argument = argument })) memory) memory
+    (written (next_place t) (written_member (record { voice = voice; argument = argument })) memory)
+    memory

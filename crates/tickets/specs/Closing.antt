@@ -40,7 +40,8 @@ abbrev pub row_in : Ticket → List ℕ → List ℕ
 row_in t memory = take (row_length t) memory
 
 module _ {B S : Type 0} {b : bank.Ghosts B} {s : store.Ghosts S} where
-  -- Where nothing is wrong, the table t and its store come to the table u and its store by Post of these bytes, with this answer; otherwise they stay.
+  -- Where nothing is wrong, the table t and its store come to the table u and its store by Post of
+  -- these bytes, with this answer; otherwise they stay.
   abbrev pub Posts : TicketVerdict → Table B S b s → List ℕ → Answer → Table B S b s → Type 0
   Posts (Ok x) t bytes a u = CallDone t (Call.post bytes) a u
   Posts (Err refusal) t bytes a u = u ≡ t

@@ -19,7 +19,8 @@ use Rattle.tickets.specs.Building.{TicketVerdict, begin_verdict, next_place, adv
 abbrev pub missing_members : Ticket → ℕ
 missing_members t = t.count - t.given
 
--- the ticket that many members further, or, where they are too many, the refusal with the ticket of the full row
+-- the ticket that many members further, or, where they are too many, the refusal with the ticket of
+-- the full row
 abbrev pub members_result : Ticket → List Member → Result Ticket HandedBack
 members_result t members =
     cond (nat_le (length members) (missing_members t)) (Ok (advanced (length members) t))
@@ -27,13 +28,15 @@ members_result t members =
 
 -- the memory afterwards: as many of them as the row has
 abbrev pub members_memory : Ticket → List Member → List ℕ → List ℕ
-members_memory t members memory = written (next_place t) (written_members (take (missing_members t) members)) memory
+members_memory t members memory =
+    written (next_place t) (written_members (take (missing_members t) members)) memory
 
 -- ---- the whole row
 
 -- the bytes of the row with this letter, body and members
 abbrev pub row_bytes : ℕ → List ℕ → List Member → List ℕ
-row_bytes letter body members = written_row (record { letter = letter; body = body; members = members })
+row_bytes letter body members =
+    written_row (record { letter = letter; body = body; members = members })
 
 -- the members are as many as the body's first byte says
 abbrev pub count_verdict : List ℕ → List Member → TicketVerdict
@@ -48,9 +51,11 @@ and_verdict (Err refusal) next = Err refusal
 
 -- the whole row: Begin's verdict, then the count of members
 abbrev pub build_verdict : Meaning → ℕ → List ℕ → List Member → ℕ → TicketVerdict
-build_verdict m letter body members room = and_verdict (begin_verdict m letter body room) (count_verdict body members)
+build_verdict m letter body members room =
+    and_verdict (begin_verdict m letter body room) (count_verdict body members)
 
--- the memory afterwards: where Begin accepts, the row with the members that were given stands at its front
+-- the memory afterwards: where Begin accepts, the row with the members that were given stands at
+-- its front
 abbrev pub build_memory : Meaning → ℕ → List ℕ → List Member → List ℕ → List ℕ
 build_memory m letter body members memory =
     cond (is_ok (begin_verdict m letter body (length memory)))
@@ -61,7 +66,8 @@ abbrev pub build_answer : Result Unit TicketRefusal → Answer
 build_answer (Ok x) = Answer.done
 build_answer (Err refusal) = Answer.refused (ticket_refusal_number refusal)
 
--- the verdict that a result shows, apart from Post's: nothing is wrong, also where Post refuses, or a refusal of the steps before it
+-- the verdict that a result shows, apart from Post's: nothing is wrong, also where Post refuses, or
+-- a refusal of the steps before it
 abbrev pub own_verdict : Result Unit TicketRefusal → TicketVerdict
 own_verdict (Ok x) = Ok tt
 own_verdict (Err UnknownLetter) = Err UnknownLetter

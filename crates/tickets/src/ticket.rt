@@ -1,4 +1,5 @@
-// A row built step by step: its ticket, and the calls that begin it, give its members, and close or scrap it.
+// A row built step by step: its ticket, and the calls that begin it, give its members, and close or
+// scrap it.
 ghost use Rattle.std.specs.Prelude.{◌≡◌, ◌<◌, length};
 
 use crate::refusal::TicketRefusal;
@@ -10,7 +11,8 @@ use stores::store::Store;
 use table::Table;
 use table::refusal::Refusal;
 
-/// A row that is being built: where its members begin, how many it has, and how many are given. It belongs to no table and no memory.
+/// A row that is being built: where its members begin, how many it has, and how many are given. It
+/// belongs to no table and no memory.
 ///
 /// It is neither `Drop` nor `Copy`: it is spent once, by `close` or `scrap`.
 pub struct Ticket {
@@ -23,7 +25,8 @@ impl Ticket {
     ghost use Rattle.tickets.specs.Building.{advanced, row_length, next_place, member_verdict, close_verdict, begin_result, begin_memory, member_result, member_memory};
     ghost use Rattle.tickets.specs.Closing.{close_answer, handed_back, to_hand_back, row_in, Posts, PostExtends};
 
-    /// Begins a row: writes letter and body at the front of the memory. (They are given as the format has them, and are no `Row` before they are read as one.)
+    /// Begins a row: writes letter and body at the front of the memory. (They are given as the
+    /// format has them, and are no `Row` before they are read as one.)
     pub fn begin<B: Bank>(
         letter: u8,
         body: &[u8],
@@ -68,7 +71,8 @@ impl Ticket {
         table: &mut Table<B, S>,
         memory: &[u8],
     ) -> Result<(), CloseRefusal>
-        ensures back { handed_back result ≡ to_hand_back (close_verdict self (length memory.now)) self }
+        ensures back { handed_back result
+            ≡ to_hand_back (close_verdict self (length memory.now)) self }
         ensures does { let verdict = close_verdict self (length memory.now) in
             Posts verdict table.old (row_in self memory.now) (close_answer result) table.new }
         ensures history { let verdict = close_verdict self (length memory.now) in
@@ -96,7 +100,8 @@ impl Ticket {
         } = self;
     }
 
-    // The ticket of letter and body, if the bank knows them and their row fits memory of this length.
+    // The ticket of letter and body, if the bank knows them and their row fits memory of this
+    // length.
     fn open<B: Bank>(letter: u8, body: &[u8], room: usize) -> Result<Ticket, TicketRefusal>
         ensures { result ≡ begin_result B.Bank.meaning letter body.now room }
     {
@@ -133,7 +138,8 @@ impl Ticket {
         usize::from(self.head) + 4 * usize::from(self.given)
     }
 
-    // Whether a member may be given, in memory of this length. (And below, whether the row may be closed: a closure for the one test that differs would be no plainer.)
+    // Whether a member may be given, in memory of this length. (And below, whether the row may be
+    // closed: a closure for the one test that differs would be no plainer.)
     fn check_member(&self, room: usize) -> Result<(), TicketRefusal>
         ensures { result ≡ member_verdict self.now room }
     {

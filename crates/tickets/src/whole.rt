@@ -27,7 +27,8 @@ fn give_members(ticket: Ticket, memory: &mut [u8], members: &[Member]) -> Result
     Ok(current)
 }
 
-/// Builds the row of letter, body and members in the memory, and posts it. A member's voice is written as the low byte of its number.
+/// Builds the row of letter, body and members in the memory, and posts it. A member's voice is
+/// written as the low byte of its number.
 pub fn build<B: Bank, S: Store>(
     table: &mut Table<B, S>,
     memory: &mut [u8],
@@ -37,13 +38,16 @@ pub fn build<B: Bank, S: Store>(
 ) -> Result<(), TicketRefusal>
     ensures value { own_verdict result
         ≡ build_verdict B.Bank.meaning letter body.now members.now (length memory.old) }
-    ensures does { let verdict = build_verdict B.Bank.meaning letter body.now members.now (length memory.old) in
+    ensures does { let verdict =
+        build_verdict B.Bank.meaning letter body.now members.now (length memory.old) in
         let bytes = row_bytes letter body.now members.now in
         Posts verdict table.old bytes (build_answer result) table.new }
-    ensures history { let verdict = build_verdict B.Bank.meaning letter body.now members.now (length memory.old) in
+    ensures history { let verdict =
+        build_verdict B.Bank.meaning letter body.now members.now (length memory.old) in
         let bytes = row_bytes letter body.now members.now in
         PostExtends verdict table.old bytes (build_answer result) table.new }
-    ensures memory { memory.new ≡ build_memory B.Bank.meaning letter body.now members.now memory.old }
+    ensures memory { memory.new
+        ≡ build_memory B.Bank.meaning letter body.now members.now memory.old }
 {
     let ticket = Ticket::begin::<B>(letter, body, memory)?;
     let given = give_members(ticket, memory, members)?;
