@@ -18,11 +18,13 @@ answer_text (Refused refusal) = codes "refused " ++ decimal (refusal_number refu
 answer_text (Found values) = codes "found" ++ spaced (vec_items values)
 answer_text None = codes "none"
 answer_text Stopped = codes "stopped"
-answer_text (Wrote count bytes) = codes "wrote " ++ (decimal count ++ (codes ":" ++ spaced (vec_items bytes)))
+answer_text (Wrote count bytes) =
+    codes "wrote " ++ (decimal count ++ (codes ":" ++ spaced (vec_items bytes)))
 
 -- as `stopped 20 7`
 abbrev pub progress_text : Progress → List ℕ
-progress_text s = outcome_name s.outcome ++ (codes " " ++ (decimal s.opened ++ (codes " " ++ decimal s.exhausted)))
+progress_text s =
+    outcome_name s.outcome ++ (codes " " ++ (decimal s.opened ++ (codes " " ++ decimal s.exhausted)))
 
 -- as `refused 13 | stopped 20 7`
 abbrev pub reply_text : Reply → List ℕ

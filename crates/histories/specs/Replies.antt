@@ -29,46 +29,58 @@ abbrev pub first_paired : ℕ → List Call → List Answer → List (Call × An
 first_paired n calls answers = paired (take n calls) (take n answers)
 
 -- the progress of the search after each call of a history, newest first
-abbrev pub progress_after : {b : Behaviour} {m : Meaning} {g : b.State} {h : List (Call × Answer)} {t : Table} {s : b.State} → History b m g h t s → List Progress
+abbrev pub progress_after : {b : Behaviour} {m : Meaning} {g : b.State}
+    {h : List (Call × Answer)} {t : Table} {s : b.State} → History b m g h t s → List Progress
 progress_after (History.made s e) = []
 progress_after (History.then h t u s r c a H f d) = progress_of u ∷ progress_after H
 
 -- Over a store with the behaviour b, in the state in which it was given:
 
--- the table, and the state of the store, that a history led to, the progress after each of its calls, and what holds then
-pub record Reached (b : Behaviour) (m : Meaning) (given : b.State) (h : List (Call × Answer)) (shown : List Progress) : Type 0 where
+-- the table, and the state of the store, that a history led to, the progress after each of its
+-- calls, and what holds then
+pub record Reached (b : Behaviour) (m : Meaning) (given : b.State) (h : List (Call × Answer))
+    (shown : List Progress) : Type 0 where
   pub table : Table
   pub state : b.State
   pub history : History b m given h table state
   pub counted : progress_after history ≡ reverse shown
   pub invariant : Invariant m (keys_lost history) table (b.view state)
 
--- these answers were given to these calls, made one after the other on a new table, with this progress after each
-pub record Played (b : Behaviour) (m : Meaning) (given : b.State) (calls : List Call) (answers : List Answer) (shown : List Progress) : Type 0 where
+-- these answers were given to these calls, made one after the other on a new table, with this
+-- progress after each
+pub record Played (b : Behaviour) (m : Meaning) (given : b.State) (calls : List Call)
+    (answers : List Answer) (shown : List Progress) : Type 0 where
   -- each call has an answer and a progress
   pub answered : length answers ≡ length calls
   pub progressed : length shown ≡ length calls
-  -- all calls together, and the first n of them, led to a table of which all holds that holds after a history
+  -- all calls together, and the first n of them, led to a table of which all holds that holds after
+  -- a history
   pub reached : Reached b m given (paired calls answers) shown
   pub each_reached : (n : ℕ) → Reached b m given (first_paired n calls answers) (take n shown)
   -- each answer says what it must of the voices and rows that the calls before it gave
-  pub means : (n : ℕ) → n < length calls → AnswerMeans m (first_paired n calls answers) (slice_index_or calls n wipe) (slice_index_or answers n done)
+  pub means : (n : ℕ) → n < length calls
+      → AnswerMeans m (first_paired n calls answers) (slice_index_or calls n wipe) (slice_index_or answers n done)
 
--- Of two histories: any result of a Solve in the one and any in the other are equal exactly when the tables, as they were then, have the same least
--- lawful placing or neither has any.
+-- Of two histories: any result of a Solve in the one and any in the other are equal exactly when
+-- the tables, as they were then, have the same least lawful placing or neither has any.
 abbrev pub Agreed : Meaning → List Call → List Answer → Meaning → List Call → List Answer → Type 0
 Agreed m calls answers m' calls' answers' = (n n' b b' : ℕ)
     → slice_index_or calls n wipe ≡ solve b → slice_index_or calls' n' wipe ≡ solve b'
-    → finished (slice_index_or answers n done) ≡ true → finished (slice_index_or answers' n' done) ≡ true
+    → finished (slice_index_or answers n done) ≡ true
+    → finished (slice_index_or answers' n' done) ≡ true
     → (slice_index_or answers n done ≡ slice_index_or answers' n' done)
-    ↔ SameLeast m (declared_voices (first_paired n calls answers)) (posted_rows m (first_paired n calls answers))
-    m' (declared_voices (first_paired n' calls' answers')) (posted_rows m' (first_paired n' calls' answers'))
+    ↔ SameLeast
+    m (declared_voices (first_paired n calls answers)) (posted_rows m (first_paired n calls answers))
+    m' (declared_voices (first_paired n' calls' answers'))
+    (posted_rows m' (first_paired n' calls' answers'))
 
 -- ---- the same of the code's calls and replies
 
 abbrev pub Replied : (b : Behaviour) → Meaning → b.State → List CodeCall → List Reply → Type 0
-Replied b m given calls replies = Played b m given (calls_of calls) (answers_of replies) (progresses_of replies)
+Replied b m given calls replies =
+    Played b m given (calls_of calls) (answers_of replies) (progresses_of replies)
 
-abbrev pub RepliesAgree : Meaning → List CodeCall → List Reply → Meaning → List CodeCall → List Reply → Type 0
+abbrev pub RepliesAgree : Meaning → List CodeCall → List Reply
+    → Meaning → List CodeCall → List Reply → Type 0
 RepliesAgree m calls replies m' calls' replies' =
     Agreed m (calls_of calls) (answers_of replies) m' (calls_of calls') (answers_of replies')

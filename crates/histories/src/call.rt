@@ -21,7 +21,8 @@ pub enum Call {
     Wipe,
 }
 
-/// What a call returned. (No `Outcome` of a Solve, since what was found comes with its values here.)
+/// What a call returned. (No `Outcome` of a Solve, since what was found comes with its values
+/// here.)
 #[derive(Debug, PartialEq, Drop)]
 pub enum Answer {
     /// A Declare, a Post or a Wipe was accepted.

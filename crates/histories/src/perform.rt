@@ -28,7 +28,8 @@ fn perform_solve<B: Bank, S: Store>(
     heap: Global,
     budget: u64,
 ) -> Result<Answer, AllocError>
-    ensures does { IfOk result (λ a. CallDone table.old (CallOf.solve budget) (answer_of a) table.new) }
+    ensures does { IfOk result
+        (λ a. CallDone table.old (CallOf.solve budget) (answer_of a) table.new) }
     ensures history { IfOk result
         (λ a. CallExtends table.old (CallOf.solve budget) (answer_of a) table.new) }
     ensures kept { OnErr result (table.new ≡ table.old) }
@@ -64,13 +65,15 @@ fn perform_read<B: Bank, S: Store>(
     }
 }
 
-/// Performs the call on the table. Solve and Read need memory: where there is none, the table is as it was.
+/// Performs the call on the table. Solve and Read need memory: where there is none, the table is as
+/// it was.
 pub fn perform<B: Bank, S: Store>(
     table: &mut Table<B, S>,
     heap: Global,
     call: &Call,
 ) -> Result<Answer, AllocError>
-    ensures does { IfOk result (λ a. CallDone table.old (call_of call.now) (answer_of a) table.new) }
+    ensures does { IfOk result
+        (λ a. CallDone table.old (call_of call.now) (answer_of a) table.new) }
     ensures history { IfOk result
         (λ a. CallExtends table.old (call_of call.now) (answer_of a) table.new) }
     ensures kept { OnErr result (table.new ≡ table.old) }

@@ -10,7 +10,8 @@ use std::alloc::{AllocError, Global};
 use stores::store::Store;
 use table::Table;
 
-/// Makes a table over the store and performs the calls on it, one after the other. Returns a reply to every call.
+/// Makes a table over the store and performs the calls on it, one after the other. Returns a reply
+/// to every call.
 pub fn play<B: Bank, S: Store + Drop>(
     heap: Global,
     store: S,

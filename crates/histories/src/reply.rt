@@ -11,7 +11,8 @@ use stores::store::Store;
 use table::Table;
 use table::outcome::Outcome;
 
-/// How far a table's search is: what it has come to, how many nodes it has opened, and how many were exhausted since the store was emptied.
+/// How far a table's search is: what it has come to, how many nodes it has opened, and how many
+/// were exhausted since the store was emptied.
 #[derive(Clone, Copy, Debug, PartialEq, Eq)]
 pub struct Progress {
     pub outcome: Outcome,

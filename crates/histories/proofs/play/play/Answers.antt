@@ -33,11 +33,11 @@ loop-call-preserved g c =
       omega (arith, c.push_reserved.ensures.len, c.loop-call.invariant.0),
       omega (arith, c.push_reserved.ensures.capacity, c.loop-call.invariant.1),
       one_more st m given {t = model u} {s = store_in u} xs ys (vec_items c.push_reserved.new.self) i x (record { answer = a; progress = k }) c.loop-call-test.true many
-            c.call-item.is c.push_reserved.ensures.items
-            (subst
-            (λ (z : Progress). Counted st m given ((call_of x, answer_of a) ∷ paired (calls_of (take i xs)) (answers_of ys)) (z ∷ reverse (progresses_of ys)) (model u) (store_in u))
-            (sym c.of.ensures)
-            (counted_then st m given (model t) (model u) (store_in t) (store_in u) (call_of x) (answer_of a) c.in_ok-perform.ensures.history d before)),
+          c.call-item.is c.push_reserved.ensures.items
+          (subst
+          (λ (z : Progress). Counted st m given ((call_of x, answer_of a) ∷ paired (calls_of (take i xs)) (answers_of ys)) (z ∷ reverse (progresses_of ys)) (model u) (store_in u))
+          (sym c.of.ensures)
+          (counted_then st m given (model t) (model u) (store_in t) (store_in u) (call_of x) (answer_of a) c.in_ok-perform.ensures.history d before)),
     )
 
 pub returns : goal.returns
