@@ -142,7 +142,7 @@ impl Levels {
     pub(crate) fn enter_next(&mut self, voices: &[ValueSet], sets: &mut [ValueSet])
         requires voices { length voices.now ≡ self.old.width }
         requires width { length sets.old ≡ self.old.width }
-        requires history { is_spent (levels_in self.old) ≡ false }
+        requires unspent { is_spent (levels_in self.old) ≡ false }
         ensures width { self.new.width ≡ self.old.width }
         ensures list { levels_in self.new ≡ next_levels (levels_in self.old) }
         ensures after { sets.new ≡ next_sets voices.now (levels_in self.old) }
@@ -169,7 +169,7 @@ impl Levels {
         requires rows { length rows.now ≤ most_rows }
         ensures width { self.new.width ≡ self.old.width }
         ensures few { result ≤ self.old.width }
-        ensures history { is_spent (levels_in self.new) ≡ false }
+        ensures unspent { is_spent (levels_in self.new) ≡ false }
         ensures backs { Backed S.Store.behaviour B.Bank.meaning (rows_of rows.now)
             (levels_in self.old) (S.Store.state store.old)
             (levels_in self.new) (S.Store.state store.new) result }

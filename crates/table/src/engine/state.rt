@@ -39,7 +39,7 @@ pub(crate) struct Search {
     ghost room: { most_voices ≤ vec_capacity sets },
     ghost fitted: { levels.width ≡ vec_len sets },
     // the newest level has a value left to try
-    ghost history: { is_spent (levels_in levels) ≡ false },
+    ghost unspent: { is_spent (levels_in levels) ≡ false },
 }
 
 // Each method says that there are as many voices as before, which no ghost field can say.

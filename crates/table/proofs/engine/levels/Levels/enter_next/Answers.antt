@@ -21,7 +21,7 @@ returns-clause-after c =
     let there : 0 < s.records.len = c.in-Some.ensures.variant.0 refl in
     let some : 0 < length s.records.items = omega (arith, there, s.records.ok.0) in
     let read = newest_record s l there c.in-Some.ensures.value in
-    let left : l.left ≢ 0 = λ z. some_left s.width s.trail.items xs some c.requires.history (ap (λ (x : LevelRecord). x.left) (sym read) ∙ z) in
+    let left : l.left ≢ 0 = λ z. some_left s.width s.trail.items xs some c.requires.unspent (ap (λ (x : LevelRecord). x.left) (sym read) ∙ z) in
     let one : c.single.result ≡ only (least l.left) = c.single.ensures ∙ sym (only_mask c.advance-value.result (c.advance-value.ensures.inside (omega (arith, left)))) ∙ ap only c.advance-value.ensures.value in
     let on = gone_on s l c.advance-value.new.self there c.in-Some.ensures.value c.advance-value.ensures.after in
     ap (λ (k : LevelRecord). set c.copy_from_slice-2.new.self k.voice c.single.result) c.advance-value.ensures.after
@@ -36,7 +36,7 @@ returns-clause-proper c = λ voices.
     let there : 0 < s.records.len = c.in-Some.ensures.variant.0 refl in
     let some : 0 < length s.records.items = omega (arith, there, s.records.ok.0) in
     let read = newest_record s l there c.in-Some.ensures.value in
-    let left : l.left ≢ 0 = λ z. some_left s.width s.trail.items xs some c.requires.history (ap (λ (x : LevelRecord). x.left) (sym read) ∙ z) in
+    let left : l.left ≢ 0 = λ z. some_left s.width s.trail.items xs some c.requires.unspent (ap (λ (x : LevelRecord). x.left) (sym read) ∙ z) in
     let one : c.single.result ≡ only (least l.left) = c.single.ensures ∙ sym (only_mask c.advance-value.result (c.advance-value.ensures.inside (omega (arith, left)))) ∙ ap only c.advance-value.ensures.value in
     let small : c.single.result < 2 ^ 64 = search rules in
     let on = gone_on s l c.advance-value.new.self there c.in-Some.ensures.value c.advance-value.ensures.after in
