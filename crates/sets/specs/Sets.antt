@@ -1,5 +1,5 @@
 -- A set of values 0 to 63 (a variable's domain) is a number of 64 bits: bit v is set where the value v is in the set.
-use Rattle.std.specs.Prelude.{ℕ, zero, suc, ◌+◌, ◌-◌, ◌*◌, ◌^◌, Bool, cond, ◌&&◌, ◌==◌, count_ones}
+use Rattle.std.specs.Prelude.{ℕ, zero, suc, ◌+◌, ◌-◌, ◌*◌, ◌^◌, Bool, cond, ◌&&◌, ◌==◌, nat_eq, count_ones}
 use Rattle.std.specs.Int.{bit_at}
 use Rattle.std.specs.Int.Count.{count_trailing_zeros, count_leading_zeros}
 
@@ -22,6 +22,10 @@ greatest s = 63 - count_leading_zeros 64 s
 -- the set of the value v alone
 abbrev pub only : ℕ → ℕ
 only v = 2 ^ v
+
+-- the set without its least value; an empty set stays empty
+abbrev pub without_least : ℕ → ℕ
+without_least s = cond (nat_eq s 0) 0 (s - only (least s))
 
 -- the set of the values below k that pass the test f
 unfoldable pub mask : ℕ → (ℕ → Bool) → ℕ
