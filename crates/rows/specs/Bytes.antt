@@ -90,7 +90,7 @@ abbrev pub MembersFit : List Member → Type 0
 MembersFit [] = Unit {0}
 MembersFit (x ∷ xs) = (x.voice < 256) × FitsSigned w16 x.argument × MembersFit xs
 
--- a row of the shape that its letter asks, whose numbers fit their bytes
+-- a row of the shape that its letter requires, whose numbers fit their bytes
 pub record LaidOut (m : Meaning) (r : RowData) : Type 0 where
   pub shape : Shaped m r
   pub letter_fits : r.letter < 256

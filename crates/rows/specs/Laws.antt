@@ -1,7 +1,7 @@
 -- The laws that every bank keeps. Code above a bank rests on them and on nothing else of its kinds.
 use Rattle.std.specs.Prelude.{◌≡◌, ℕ, ◌+◌, ◌≤◌, Bool, true, false, ◌||◌, List, ◌++◌, length, Ok, ◌==◌, slice_index}
 use Rattle.sets.specs.Sets.{fixed}
-use Rattle.sets.specs.Placings.{some_empty, all_fixed, values, Proper, Placing, Within, Narrower}
+use Rattle.sets.specs.Placings.{changed, some_empty, all_fixed, values, Proper, Placing, Within, Narrower}
 use Rattle.rows.specs.Rows.{RowData, KindMeaning, Meaning, alone, count}
 
 -- a letter that no kind may have: a sheet's V and Z, and a member's M
@@ -22,7 +22,7 @@ pub record Shaped (m : Meaning) (r : RowData) : Type 0 where
   pub some_members : 1 ≤ count r
   pub few_members : count r ≤ 32
 
--- it is a row by its shape, and the bank, asked with n voices, says yes; what it says to data of another shape is left to it
+-- it is a row by its shape, and the bank accepts it with n voices; what a bank returns for data of another shape is left to it
 pub record Accepted (m : Meaning) (r : RowData) (n : ℕ) : Type 0 where
   pub shape : Shaped m r
   pub yes : m.accepts r n ≡ Ok tt
@@ -30,6 +30,10 @@ pub record Accepted (m : Meaning) (r : RowData) (n : ℕ) : Type 0 where
 -- the kind accepts the row in a table of as many voices as there are sets
 abbrev pub AcceptedFor : KindMeaning → RowData → List ℕ → Type 0
 AcceptedFor k r s = Accepted (alone k) r (length s)
+
+-- After a turn on an accepted row, where no set was empty, it is told whether a value went.
+abbrev pub ChangeTold : Meaning → RowData → (before after : List ℕ) → Bool → Type 0
+ChangeTold m r before after told = Accepted m r (length before) → Proper before → told ≡ changed after before
 
 -- two lists of sets with the same fixed voices, at values that may differ, and equal sets elsewhere
 pub record Alike (s t : List ℕ) : Type 0 where

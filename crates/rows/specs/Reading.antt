@@ -1,13 +1,13 @@
--- Reading a row from bytes: what is answered, and the row afterwards.
+-- Reading a row from bytes: what is returned, and the row afterwards.
 use Rattle.std.specs.Prelude.{ℕ, Bool, cond, List, ◌++◌, take, drop, is_ok, Ok, Err, Result}
 use Rattle.rows.specs.declared.refusal.RowRefusal.{RowRefusal}
 use Rattle.rows.specs.declared.refusal.RowRefusal.TheVariants.{UnknownLetter, BadCount, WrongLength, UnmarkedMember, ByKind}
 use Rattle.rows.specs.Rows.{RowData, Meaning, Verdict}
 use Rattle.rows.specs.Bytes.{head_length, lettered, counted, right_length, marked, decode, members_in}
 
--- what comes next where the test holds, the fault where it does not
+-- what comes next where the test holds, the refusal where it does not
 abbrev pub checked : {A E : Type 0} → Bool → E → Result A E → Result A E
-checked test fault next = cond test next (Err fault)
+checked test refusal next = cond test next (Err refusal)
 
 -- the first fault of the layout, and what comes next where there is none
 abbrev pub layout : {A : Type 0} → Meaning → List ℕ → Result A RowRefusal → Result A RowRefusal
@@ -19,12 +19,12 @@ layout m bs next =
 abbrev pub layout_fault : Meaning → List ℕ → Result Unit RowRefusal
 layout_fault m bs = layout m bs (Ok tt)
 
--- a kind's answer as an answer to bytes
+-- a kind's verdict as that on bytes
 abbrev pub of_kind : Verdict → Result Unit RowRefusal
 of_kind (Ok x) = Ok x
-of_kind (Err fault) = Err (ByKind fault)
+of_kind (Err refusal) = Err (ByKind refusal)
 
--- the answer to bytes with so many voices: the first fault of their layout, then what the kind says of the row that they stand for
+-- the verdict on bytes with so many voices: the first fault of their layout, then the verdict of the kind on the row that they stand for
 abbrev pub row_verdict : Meaning → List ℕ → ℕ → Result Unit RowRefusal
 row_verdict m bs voices = layout m bs (of_kind (m.accepts (decode m bs) voices))
 

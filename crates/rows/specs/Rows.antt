@@ -1,5 +1,5 @@
 -- What rows say, and what a kind of rows and a bank of kinds mean.
-use Rattle.std.specs.Prelude.{ℕ, Bool, cond, ◌&&◌, ◌||◌, List, Result, ◌==◌, nat_le, slice_index}
+use Rattle.std.specs.Prelude.{ℕ, Bool, cond, ◌&&◌, ◌||◌, List, Option, Some, None, Result, ◌==◌, nat_le, slice_index}
 use Rattle.rows.specs.declared.refusal.KindRefusal.{KindRefusal}
 use Rattle.rows.specs.declared.member.Member.{Member}
 use Rattle.rows.specs.declared.trace.Trace.{Trace}
@@ -21,7 +21,7 @@ count r = byte r 0
 abbrev pub allowed_count : ℕ → Bool
 allowed_count n = nat_le 1 n && nat_le n 32
 
--- asked to accept a row, a kind answers yes or a fault
+-- whether a row is accepted, or why it is refused
 abbrev pub Verdict : Type 0
 Verdict = Result Unit KindRefusal
 
@@ -43,6 +43,10 @@ pub record Meaning : Type 0 where
   pub holds : RowData → List ℕ → Bool
   pub turn : RowData → List ℕ → List ℕ
   pub trace : RowData → List ℕ → Trace
+
+-- the body length of the rows with this letter, where the bank knows it
+abbrev pub known_body_length : Meaning → ℕ → Option ℕ
+known_body_length m l = cond (m.known l) (Some (m.body_length l)) None
 
 -- a bank of one kind
 abbrev pub alone : KindMeaning → Meaning

@@ -34,7 +34,7 @@ abbrev pub shaped : ℕ → ℕ → RowData → Bool
 shaped letter long r =
     (r.letter == letter) && (length r.body == long && (nat_le 1 (count r) && (nat_le (count r) 32 && length r.members == count r)))
 
--- a row of another shape is declined; a voice that is not declared goes before a rule that is broken
+-- a row of another shape is refused; a voice that is not declared goes before a rule that is broken
 abbrev pub verdict : Bool → Bool → Bool → Verdict
 verdict shape declared rule = cond shape (cond declared (cond rule (Ok tt) (Err RuleBroken)) (Err Undeclared)) (Err RuleBroken)
 

@@ -1,8 +1,8 @@
 // A bank of row kinds: one kind, or two banks side by side.
 ghost use Rattle.std.specs.Prelude.{◌≡◌, if◌then◌else◌, Some, None, length};
 ghost use Rattle.sets.specs.Placings.{changed, Proper};
-ghost use Rattle.rows.specs.Rows.{Meaning, alone, beside};
-ghost use Rattle.rows.specs.Laws.{Laws, Accepted};
+ghost use Rattle.rows.specs.Rows.{Meaning, known_body_length, alone, beside};
+ghost use Rattle.rows.specs.Laws.{Laws, ChangeTold};
 ghost use Rattle.rows.specs.Views.{row_of};
 ghost use Rattle.rows.specs.SideBySide.{beside_lawful};
 
@@ -13,24 +13,27 @@ use crate::trace::Trace;
 use sets::ValueSet;
 use std::marker::PhantomData;
 
+/// What a table asks of the rows of several kinds.
 pub trait Bank {
     // what the rows of the bank's kinds mean
     ghost meaning: { Meaning };
 
-    // The body length of the rows with this letter, where the bank knows it.
+    /// The body length of the rows with this letter, where the bank knows it.
     fn body_length(letter: u8) -> Option<usize>
-        ensures { result ≡ (if meaning.known letter then Some (meaning.body_length letter) else None) };
+        ensures { result ≡ known_body_length meaning letter };
 
-    // Whether the bank accepts the row in a table of so many voices.
+    /// Whether the bank accepts the row in a table of so many voices.
     fn accept(row: &Row, voices: usize) -> Result<(), KindRefusal>
         ensures { result ≡ meaning.accepts (row_of row.now) voices };
 
-    // Takes values out of the sets that no placing needs for which the row holds; and where the row is accepted and no set is empty, it says whether it took one.
+    /// Takes out of the sets values that no placing needs for which the row holds. Returns whether
+    /// one went, where the row is accepted and no set was empty; for other rows and sets the result
+    /// may be either.
     fn turn(row: &Row, sets: &mut [ValueSet]) -> bool
         ensures after { sets.new ≡ meaning.turn (row_of row.now) sets.old }
-        ensures value { Accepted meaning (row_of row.now) (length sets.old) → Proper sets.old → result ≡ changed sets.new sets.old };
+        ensures value { ChangeTold meaning (row_of row.now) sets.old sets.new result };
 
-    // What the fixed voices leave of the row.
+    /// What the fixed voices leave of the row.
     fn trace(row: &Row, sets: &[ValueSet]) -> Trace
         ensures { result ≡ meaning.trace (row_of row.now) sets.now };
 
@@ -38,7 +41,7 @@ pub trait Bank {
     ghost lawful: { Laws meaning };
 }
 
-// The bank of one kind.
+/// The bank of one kind.
 pub struct Alone<K> {
     kind: PhantomData<K>,
 }
@@ -65,13 +68,14 @@ impl<K: Kind> Bank for Alone<K> {
     }
 }
 
-// Two banks side by side: a row goes to the first that knows its letter.
+/// Two banks side by side: a row goes to the first that knows its letter.
 pub struct Beside<X, Y> {
     first: PhantomData<X>,
     second: PhantomData<Y>,
 }
 
-// Each of the three functions asks whose letter it is: what follows differs, and a closure for it would be no plainer.
+// Each of the three functions sees whose letter it is: what follows differs, and a closure for it
+// would be no plainer.
 impl<X: Bank, Y: Bank> Bank for Beside<X, Y> {
     ghost meaning = { beside X.Bank.meaning Y.Bank.meaning };
 

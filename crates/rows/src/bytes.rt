@@ -1,7 +1,7 @@
 // Rows and their bytes.
 ghost use Rattle.rows.specs.Bytes.{BytesBothWays};
 
-// Rows of the layout and their bytes stand for each other.
+/// A law: rows of the layout and their bytes stand for each other, both ways.
 pub fn bytes_both_ways()
     ensures { BytesBothWays }
 {}

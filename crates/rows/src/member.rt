@@ -1,13 +1,16 @@
 // Members of rows.
 ghost use Rattle.std.specs.Prelude.{◌≡◌};
 
-// What a member begins with, where a row is written as bytes.
+/// What a member begins with, where a row is written as bytes.
 pub const MEMBER_MARK: u8 = 0x4D;
 
-// One member of a row: a voice (variable), by its number, and a signed argument whose meaning the row's kind gives.
+/// One member of a row: the number of a voice (variable), and a signed argument. What the argument
+/// means is up to the row's kind.
 #[derive(Clone, Copy)]
 pub struct Member {
+    /// The voice's number, counted from 0.
     pub voice: u16,
+    /// What the row's kind takes it for.
     pub argument: i16,
 }
 

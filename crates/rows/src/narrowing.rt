@@ -11,14 +11,14 @@ use crate::refusal::KindRefusal;
 use crate::row::{MOST_MEMBERS, Row};
 use sets::ValueSet;
 
-// A voice's set; the empty set where there is no such voice.
+/// A voice's set; the empty set where there is no such voice.
 pub fn set_of(sets: &[ValueSet], voice: u16) -> ValueSet
     ensures { result ≡ slice_index sets.now voice }
 {
     sets.get(usize::from(voice)).copied().unwrap_or(0)
 }
 
-// Of a voice's set only the values in `kept` stay; says whether one went.
+/// Keeps of a voice's set only the values in `kept`; returns whether one went.
 pub fn keep_only(sets: &mut [ValueSet], voice: u16, kept: ValueSet) -> bool
     ensures after { sets.new ≡ cut voice (has kept) sets.old }
     ensures value { result ≡ changed sets.new sets.old }
@@ -33,8 +33,9 @@ pub fn keep_only(sets: &mut [ValueSet], voice: u16, kept: ValueSet) -> bool
     sets[place] != before
 }
 
-// Whether a row has this letter, so many body bytes, a count from 1 to 32 and that many members. (Letter and length are a kind's own constants, and not taken
-// from a type parameter: the kinds call this where they are made kinds, and are none yet.)
+/// Whether a row has this letter, so many body bytes, a count from 1 to 32 and that many members.
+/// (The kinds pass their own constants: a type parameter would have to be a kind, and they call
+/// this where they are made kinds.)
 pub fn is_shaped(row: &Row, letter: u8, body_length: usize) -> bool
     ensures { result ≡ shaped letter body_length (row_of row.now) }
 {
@@ -45,14 +46,15 @@ pub fn is_shaped(row: &Row, letter: u8, body_length: usize) -> bool
         && row.members().len() == count
 }
 
-// Whether the members' voices are all among the first `voices`.
+/// Whether the members' voices are all among the first `voices`.
 pub fn are_declared(members: &[Member], voices: usize) -> bool
     ensures { result ≡ list_all (λ m. nat_lt m.voice voices) members.now }
 {
     members.iter().all(|m| usize::from(m.voice) < voices)
 }
 
-// A row's verdict, by its shape, its voices and the kind's own rule: a voice that is not declared goes before a rule that is broken.
+/// A row's verdict, by its shape, its voices and the kind's own rule. Of two things that are wrong,
+/// an undeclared voice is told before a broken rule.
 pub fn judge(shape: bool, declared: bool, rule: bool) -> Result<(), KindRefusal>
     ensures { result ≡ verdict shape declared rule }
 {

@@ -12,7 +12,8 @@ use crate::row::{MOST_MEMBERS, Row};
 
 // The length of the body that the letter asks for.
 fn body_length<B: Bank>(bytes: &[u8]) -> Result<usize, RowRefusal>
-    ensures { result ≡ checked (lettered B.Bank.meaning bytes.now) UnknownLetter (Ok (B.Bank.meaning.body_length (letter_byte bytes.now))) }
+    ensures { result ≡ checked (lettered B.Bank.meaning bytes.now) UnknownLetter
+        (Ok (B.Bank.meaning.body_length (letter_byte bytes.now))) }
 {
     bytes
         .first()
@@ -31,11 +32,12 @@ fn member_count(bytes: &[u8]) -> Result<usize, RowRefusal>
         .ok_or(RowRefusal::BadCount)
 }
 
-// Whether each member, of four bytes, has its mark.
+// Whether each member, of four bytes, begins with its mark.
 fn are_marked(bytes: &[u8]) -> bool
     ensures { result ≡ marked bytes.now }
 {
-    // a loop by pattern, as in push_members: what the check knows of `chunks_exact` with `all` is too little for the clause
+    // a loop by pattern, as in push_members: what the check knows of `chunks_exact` with `all` is
+    // too little for the clause
     let mut left = bytes;
     while let [mark, _voice, _low, _high, rest @ ..] = left {
         if *mark != MEMBER_MARK {
@@ -48,7 +50,8 @@ fn are_marked(bytes: &[u8]) -> bool
 
 // Where the members begin, if the bytes have the layout of a row.
 fn members_start<B: Bank>(bytes: &[u8]) -> Result<usize, RowRefusal>
-    ensures { result ≡ layout B.Bank.meaning bytes.now (Ok (head_length B.Bank.meaning bytes.now)) }
+    ensures { result ≡ layout B.Bank.meaning bytes.now
+        (Ok (head_length B.Bank.meaning bytes.now)) }
 {
     let start = 1 + body_length::<B>(bytes)?;
     let count = member_count(bytes)?;
@@ -75,7 +78,7 @@ fn push_members(row: &mut Row, bytes: &[u8])
     }
 }
 
-// Reads the bytes into the row, if they have the layout of one; otherwise it stays as it is.
+/// Reads the bytes into the row. If they have not the layout of a row, it stays as it is.
 pub fn read_row<B: Bank>(bytes: &[u8], row: &mut Row) -> Result<(), RowRefusal>
     ensures value { result ≡ layout_fault B.Bank.meaning bytes.now }
     ensures after { row_of row.new ≡ row_after B.Bank.meaning bytes.now (row_of row.old) }
@@ -87,7 +90,8 @@ pub fn read_row<B: Bank>(bytes: &[u8], row: &mut Row) -> Result<(), RowRefusal>
     Ok(())
 }
 
-// Reads the bytes into the row, and asks the bank whether it accepts that in a table of so many voices.
+/// Reads the bytes into the row and returns whether the bank accepts that row in a table of so many
+/// voices. The row holds what was read also where the bank does not accept it.
 pub fn accept_bytes<B: Bank>(bytes: &[u8], voices: usize, row: &mut Row) -> Result<(), RowRefusal>
     ensures value { result ≡ row_verdict B.Bank.meaning bytes.now voices }
     ensures after { row_of row.new ≡ row_after B.Bank.meaning bytes.now (row_of row.old) }

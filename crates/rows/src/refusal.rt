@@ -46,7 +46,8 @@ impl fmt::Display for KindRefusal {
 
 impl Error for KindRefusal {}
 
-/// Why bytes are refused as a row: they have not the layout of one, or the kind refuses the row that they stand for.
+/// Why bytes are refused as a row: they have not the layout of one, or the kind refuses the row
+/// that they stand for.
 #[derive(Clone, Copy, Debug, PartialEq, Eq)]
 pub enum RowRefusal {
     /// The letter is missing, or is none of the bank's.

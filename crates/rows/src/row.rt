@@ -6,13 +6,14 @@ use std::alloc::{AllocError, Global};
 use std::error::Error;
 use std::fmt;
 
-// The most members that a row has, and the longest body.
+/// The most members of a row.
 pub const MOST_MEMBERS: usize = 32;
 
+/// The most bytes of a body, the count of members among them.
 pub const LONGEST_BODY: usize = 16;
 
-// A row: its kind's letter, its body, whose first byte is the count of members, and its members. Its memory is reserved for the longest row, so that
-// filling it never fails.
+/// A row: its kind's letter, its body, whose first byte is the count of members, and its members.
+/// Its memory is reserved for the longest row, so that filling it never fails.
 #[derive(Drop)]
 pub struct Row {
     letter: u8,
@@ -79,7 +80,7 @@ impl Row {
     ghost use Rattle.rows.specs.WrittenRows.{written_row};
     ghost use Rattle.rows.specs.Views.{row_of, blank, with_byte, with_member};
 
-    // A row with this letter, no body and no members.
+    /// A row with this letter, no body and no members. An error only where there is no memory.
     pub fn new(heap: Global, letter: u8) -> Result<Row, AllocError>
         ensures { IfOk result (λ row. row_of row ≡ blank letter) }
     {
@@ -92,9 +93,11 @@ impl Row {
         })
     }
 
-    /// A row with this letter and no members yet, whose body is the count of members to come and then these bytes, as far as a body goes.
+    /// A row with this letter and no members yet, whose body is the count of members to come and
+    /// then these bytes, as many as a body has room for.
     pub fn with_count(heap: Global, letter: u8, count: usize, rest: &[u8]) -> Result<Row, RowError>
-        ensures { ConstructsHead count (with_bytes (with_byte (blank letter) count) rest.now) result }
+        ensures { ConstructsHead count
+            (with_bytes (with_byte (blank letter) count) rest.now) result }
     {
         if !(1..=MOST_MEMBERS).contains(&count) {
             return Err(RowError::MemberCount);
@@ -105,7 +108,7 @@ impl Row {
         Ok(row)
     }
 
-    // Makes this the row with this letter, no body and no members; it keeps its memory.
+    /// Makes this the row with this letter, no body and no members; its memory is kept.
     pub fn restart(&mut self, letter: u8)
         ensures { row_of self.new ≡ blank letter }
     {
@@ -114,10 +117,12 @@ impl Row {
         self.members.clear();
     }
 
-    // One byte more of the body; false, and nothing changes, where it is as long as a body can be. (A bool, as `insert` of a set has it: there is one way to fail.)
+    /// Appends a byte to the body. Returns false, and changes nothing, where the body is as long as
+    /// it can be.
     pub fn push_byte(&mut self, byte: u8) -> bool
         ensures value { result ≡ nat_lt (length (row_of self.old).body) 16 }
-        ensures after { row_of self.new ≡ (if result then with_byte (row_of self.old) byte else row_of self.old) }
+        ensures after { row_of self.new ≡
+            (if result then with_byte (row_of self.old) byte else row_of self.old) }
     {
         if self.body.len() >= LONGEST_BODY {
             return false;
@@ -126,7 +131,7 @@ impl Row {
         true
     }
 
-    /// These bytes more of the body, as far as a body goes.
+    /// Appends these bytes to the body, as many as it has room for.
     pub fn push_bytes(&mut self, bytes: &[u8])
         ensures { row_of self.new ≡ with_bytes (row_of self.old) bytes.now }
     {
@@ -135,10 +140,12 @@ impl Row {
         }
     }
 
-    // One member more; false, and nothing changes, where there are as many as a row can have. (A bool, as above.)
+    /// Appends a member. Returns false, and changes nothing, where there are as many as a row can
+    /// have.
     pub fn push_member(&mut self, member: Member) -> bool
         ensures value { result ≡ nat_lt (length (row_of self.old).members) 32 }
-        ensures after { row_of self.new ≡ (if result then with_member (row_of self.old) member else row_of self.old) }
+        ensures after { row_of self.new ≡
+            (if result then with_member (row_of self.old) member else row_of self.old) }
     {
         if self.members.len() >= MOST_MEMBERS {
             return false;
@@ -147,42 +154,43 @@ impl Row {
         true
     }
 
-    // The letter of the row's kind.
+    /// The letter of the row's kind.
     pub fn letter(&self) -> u8
         ensures { result ≡ (row_of self.now).letter }
     {
         self.letter
     }
 
-    // The body, whose first byte is the count of members.
+    /// The body, whose first byte is the count of members.
     pub fn body(&self) -> &[u8]
         ensures { result.now ≡ (row_of self.now).body }
     {
         &self.body
     }
 
-    // The members, in order.
+    /// The members, in order.
     pub fn members(&self) -> &[Member]
         ensures { result.now ≡ (row_of self.now).members }
     {
         &self.members
     }
 
-    // Byte i of the body; 0 past its end.
+    /// Byte i of the body; 0 past its end.
     pub fn byte(&self, i: usize) -> u8
         ensures { result ≡ slice_index (row_of self.now).body i }
     {
         self.body.get(i).copied().unwrap_or(0)
     }
 
-    // How many bytes the row is written in.
+    /// How many bytes `to_bytes` writes.
     pub fn bytes_len(&self) -> usize
         ensures { result ≡ length (encode (row_of self.now)) }
     {
         1 + self.body.len() + 4 * self.members.len()
     }
 
-    /// The row as bytes, with the low byte of each voice. Where the voices are all below 256, these are the bytes that it is read from.
+    /// The row as bytes, with the low byte of each voice. Where the voices are all below 256, these
+    /// are the bytes that the row is read from.
     pub fn to_bytes(&self, heap: Global) -> Result<Vec<u8>, AllocError>
         ensures { IfOk result (λ bytes. bytes.items ≡ written_row (row_of self.now)) }
     {

@@ -2,17 +2,17 @@
 ghost use Rattle.std.specs.Prelude.{◌≡◌, [], ◌∷◌};
 ghost use Rattle.rows.specs.Traces.{mark_word, content_word};
 
-// What the fixed voices leave of a row.
+/// What the fixed voices leave of a row.
 #[derive(Clone, Copy, Debug, PartialEq, Eq)]
 pub enum Trace {
-    // the row holds whatever the open voices take
+    /// The row holds whatever the open voices take.
     Settled,
-    // otherwise: a content, which is all that matters to the open voices
+    /// It is still open; the content is all that matters to the open voices.
     Open(u64),
 }
 
 impl Trace {
-    // The two words that stand for the trace in a key: its mark and its content.
+    /// The two words that stand for the trace in a key: its mark and its content.
     pub fn words(self) -> [u64; 2]
         ensures { result ≡ mark_word self ∷ content_word self ∷ [] }
     {

@@ -1,8 +1,9 @@
-// Lent memory that is written from a place on, piece after piece.
+// Writing into a borrowed buffer, one piece after the other.
 ghost use Rattle.std.specs.Prelude.{◌≡◌, ◌^◌, ◌<◌, length, decimal};
 ghost use Rattle.rows.specs.WrittenRows.{WrittenEncoded};
 
-// The lent memory, and the place where the next piece goes. What does not fit is not written, and counts all the same, as far as a place can be counted.
+/// A borrowed buffer and the place in it where the next piece goes. What does not fit is not
+/// written, but the place moves on as if it were, up to the largest number that it can be.
 #[derive(Drop)]
 pub struct Writer<'a> {
     out: &'a mut [u8],
@@ -12,7 +13,7 @@ pub struct Writer<'a> {
 }
 
 impl<'a> Writer<'a> {
-    // A writer from the front of the memory on.
+    /// A writer that begins at the front of the buffer.
     pub fn new(out: &'a mut [u8]) -> Writer<'a>
         ensures place { result.at ≡ 0 }
         ensures bytes { result.out.now ≡ out.old }
@@ -21,7 +22,7 @@ impl<'a> Writer<'a> {
         Writer::from_place(out, 0)
     }
 
-    // A writer from a place of the memory on.
+    /// A writer that begins at this place of the buffer.
     pub fn from_place(out: &'a mut [u8], place: usize) -> Writer<'a>
         ensures place { result.at ≡ place }
         ensures bytes { result.out.now ≡ out.old }
@@ -30,7 +31,7 @@ impl<'a> Writer<'a> {
         Writer { out, at: place }
     }
 
-    // The place behind what was written.
+    /// The place behind what was written.
     pub fn place(&self) -> usize
         ensures { result ≡ self.now.at }
     {
@@ -41,7 +42,7 @@ impl<'a> Writer<'a> {
 impl Writer<'_> {
     ghost use Rattle.rows.specs.Written.{Wrote};
 
-    // Writes the bytes, as many as fit.
+    /// Writes the bytes, as many as fit.
     pub fn put(&mut self, bytes: &[u8])
         ensures { Wrote bytes.now self.old self.new }
     {
@@ -52,7 +53,7 @@ impl Writer<'_> {
         self.at = self.at.saturating_add(bytes.len());
     }
 
-    // Writes the number in decimal, without leading zeros.
+    /// Writes the number in decimal, without leading zeros.
     pub fn put_number(&mut self, number: u64)
         ensures { Wrote (decimal number) self.old self.new }
     {
@@ -63,7 +64,7 @@ impl Writer<'_> {
     }
 }
 
-// What is written of a row that was read from bytes is its bytes.
+/// A law: what is written of a row that was read from bytes is those bytes.
 pub fn written_is_encoded()
     ensures { WrittenEncoded }
 {}
