@@ -46,7 +46,8 @@ fn is_named(members: &[Member], voice: u16) -> bool
     members.iter().any(|m| voice == m.voice)
 }
 
-// Where the taker is fixed, takes its value out of the sets of the members with another voice; says whether one lost it.
+// Where the taker is fixed, takes its value out of the sets of the members with another voice;
+// returns whether one lost it.
 fn take_from_others(members: &[Member], taker: Member, sets: &mut [ValueSet]) -> bool
     ensures after { sets.new ≡ cuts (may_stay taker (at sets.old taker)) members.now sets.old }
     ensures value { result ≡ changed sets.new sets.old }
@@ -66,7 +67,8 @@ fn take_from_others(members: &[Member], taker: Member, sets: &mut [ValueSet]) ->
 
 // The values that the sets of two members or more have, and the values of the fixed members.
 fn shared_and_placed(members: &[Member], sets: &[ValueSet]) -> (ValueSet, ValueSet)
-    ensures shared { result.0 ≡ mask 64 (λ v. nat_lt 1 (count_by (λ m. has (at sets.now m) v) members.now)) }
+    ensures shared { result.0 ≡
+        mask 64 (λ v. nat_lt 1 (count_by (λ m. has (at sets.now m) v) members.now)) }
     ensures placed { result.1 ≡ fixed_values members.now sets.now }
 {
     let mut once = 0;
@@ -83,11 +85,11 @@ fn shared_and_placed(members: &[Member], sets: &[ValueSet]) -> (ValueSet, ValueS
     (shared, placed)
 }
 
-// The kind of rows whose members' values all differ.
+/// The kind of rows whose members' values all differ; its letter is A.
 pub struct AllDifferent;
 
 impl AllDifferent {
-    /// The row with these voices.
+    /// The row with these voices. A voice that is named twice is left to `accept`.
     pub fn row(heap: Global, voices: &[u8]) -> Result<Row, RowError>
         ensures { Constructs (if_counted (all_different_row voices.now)) result }
     {
@@ -119,7 +121,8 @@ impl Kind for AllDifferent {
 
     ghost lawful = { all_different_lawful };
 
-    // A row is accepted where it has the shape, its voices are declared, its arguments are 0 and no voice repeats.
+    // A row is accepted where it has the shape, its voices are declared, its arguments are 0 and no
+    // voice repeats.
     fn accept(row: &Row, voices: usize) -> Result<(), KindRefusal> {
         let members = row.members();
         let shape = is_shaped(row, Self::LETTER, Self::BODY_LENGTH);

@@ -1,4 +1,5 @@
-// The kind C: some literal is true. A literal is a member; its argument a says "the value is a" below 64, and "the value is not a - 64" from there on.
+// The kind C: some literal is true. A literal is a member with an argument a: below 64 it is true
+// where the voice has the value a, from 64 on where the voice has not the value a - 64.
 ghost use Rattle.std.specs.Prelude.{◌≡◌, refl, false, take, position};
 ghost use Rattle.sets.specs.Sets.{mask};
 ghost use Rattle.sets.specs.Placings.{changed};
@@ -60,7 +61,7 @@ fn are_refuted(literals: &[Member], sets: &[ValueSet]) -> bool
     literals.iter().all(|m| is_refuted(*m, sets))
 }
 
-// Empties the set of the first literal's voice; says whether a value went.
+// Empties the set of the first literal's voice; returns whether a value went.
 fn empty_first(literals: &[Member], sets: &mut [ValueSet]) -> bool
     ensures after { sets.new ≡ cuts (λ _ _. false) (take 1 literals.now) sets.old }
     ensures value { result ≡ changed sets.new sets.old }
@@ -95,12 +96,12 @@ fn are_in_range(literals: &[Member]) -> bool
     literals.iter().all(|m| is_in_range(*m))
 }
 
-/// What a literal says of a voice.
+/// A literal, which is true of a voice's value or is not.
 #[derive(Clone, Copy, Debug, PartialEq, Eq)]
 pub enum Literal {
-    /// The voice has this value.
+    /// True where the voice has this value.
     Is { voice: u8, value: u8 },
-    /// The voice has another value.
+    /// True where the voice has another value.
     IsNot { voice: u8, value: u8 },
 }
 
@@ -138,13 +139,16 @@ fn have_values(literals: &[Literal]) -> bool
     literals.iter().all(|literal| literal.has_value())
 }
 
-// Rows of which some literal is true.
+/// The kind of rows of which some literal is true; its letter is C.
 pub struct Clause;
 
 impl Clause {
-    /// The row with these literals, of which one has to be true. A value above 63 is refused, whatever else is wrong.
+    /// The row with these literals. Where a literal's value is above 63 the error is `LargeValue`,
+    /// also where there are too many literals.
     pub fn row(heap: Global, literals: &[Literal]) -> Result<Row, RowError>
-        ensures { Constructs (checked (list_all has_value literals.now) LargeValue (if_counted (clause_row literals.now))) result }
+        ensures { Constructs
+            (checked (list_all has_value literals.now) LargeValue
+            (if_counted (clause_row literals.now))) result }
     {
         if !have_values(literals) {
             return Err(RowError::LargeValue);
@@ -181,7 +185,9 @@ impl Kind for Clause {
         judge(shape, declared, rule)
     }
 
-    // By the literals that are not refuted: where there are none, the first member's set becomes empty; the only one becomes true; several tell nothing.
+    // By the literals that are not refuted: where there are none, the first member's set becomes
+    // empty; where there is one, its set loses the values that make it false; where there are
+    // several, nothing changes.
     fn turn(row: &Row, sets: &mut [ValueSet]) -> bool
         ensures after { sets.new ≡ clause.turn (row_of row.now) sets.old }
         ensures value { result ≡ changed sets.new sets.old }

@@ -1,5 +1,5 @@
-// The kind E: the result is the entry that the index names. The entries are the members' arguments, in order; the index voice and the result voice
-// stand in the body.
+// The kind E: the result is the entry that the index names. The entries are the members' arguments,
+// in order; the numbers of the index voice and the result voice are in the body.
 ghost use Rattle.std.specs.Prelude.{◌≡◌, refl, ◌&&◌, length, if◌then◌else◌, ◌==◌, nat_lt, unsigned_abs};
 ghost use Rattle.sets.specs.Sets.{has, mask, sift};
 ghost use Rattle.std.specs.List.{list_all};
@@ -38,7 +38,8 @@ fn value_of(m: Member) -> u32
     u32::from(m.argument.unsigned_abs())
 }
 
-// What stands for an entry where there is none: no value is as great. (A number: it is what the trace has then.)
+// The entry of a place that has none: no value is as great. (A number, since it is what the trace
+// has then.)
 const NO_ENTRY: u32 = 64;
 
 // The entry at a place.
@@ -61,9 +62,11 @@ fn is_met(entries: &[Member], place: u32, value: u32) -> bool
     }
 }
 
-// The indices whose entry is among the results, and these entries. (Over the set: most sets have fewer values than a row has entries.)
+// The indices whose entry is among the results, and these entries. (Over the set: most sets have
+// fewer values than a row has entries.)
 fn matching(entries: &[Member], indices: ValueSet, results: ValueSet) -> (ValueSet, ValueSet)
-    ensures kept { result.0 ≡ sift (λ i. nat_lt i (length entries.now) && has results (entry entries.now i)) indices }
+    ensures kept { result.0 ≡
+        sift (λ i. nat_lt i (length entries.now) && has results (entry entries.now i)) indices }
     ensures named { result.1 ≡ mask 64 (reached entries.now (has result.0)) }
 {
     let mut kept = 0;
@@ -96,11 +99,12 @@ fn are_entries(members: &[Member]) -> bool
     members.iter().all(|m| is_entry(*m))
 }
 
-// Rows whose result is the entry that the index names.
+/// The kind of rows whose result is the entry that the index names; its letter is E.
 pub struct Element;
 
 impl Element {
-    /// The row whose result voice has the entry that the index voice's value names, counted from 0.
+    /// The row in which the voice `held_by` has the entry that the value of the voice `index`
+    /// names, counted from 0. An entry above 63 is left to `accept`.
     pub fn row(heap: Global, index: u8, held_by: u8, entries: &[u8]) -> Result<Row, RowError>
         ensures { Constructs (if_counted (element_row index held_by entries.now)) result }
     {
@@ -147,7 +151,8 @@ impl Kind for Element {
         let index = index_voice(row);
         let result = result_voice(row);
         let (kept, named) = matching(row.members(), set_of(sets, index), set_of(sets, result));
-        // what the second step keeps are the entries at the indices that the first keeps, also where both voices are one
+        // what the second step keeps are the entries at the indices that the first keeps, also
+        // where both voices are one
         keep_only(sets, index, kept) | keep_only(sets, result, named)
     }
 

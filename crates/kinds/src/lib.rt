@@ -15,13 +15,13 @@ pub mod clause;
 pub mod element;
 pub mod linear;
 
-// All different, linear, clause and element, side by side.
+/// The bank of the four kinds: all different, linear, clause and element.
 pub type FourKinds = Beside<
     Alone<AllDifferent>,
     Beside<Alone<Linear>, Beside<Alone<Clause>, Alone<Element>>>,
 >;
 
-// The bank means the four kinds side by side, where each row goes to the kind whose letter it has.
+/// The bank means the four kinds side by side, where each row goes to the kind whose letter it has.
 pub fn four_kinds_hold()
     ensures meaning { ⟦<FourKinds as Bank>⟧.meaning ≡ four_kinds }
     ensures letters { ByLetter }

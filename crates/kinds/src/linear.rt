@@ -24,7 +24,8 @@ const LARGEST_COEFFICIENT: u16 = 1_000;
 // The largest bound, whatever its sign.
 const LARGEST_BOUND: u64 = 3_000_000;
 
-// The content of an open row whose fixed members add up to 0: so large that no accepted row has a content below 0.
+// The content of an open row whose fixed members add up to 0: so large that no accepted row has a
+// content below 0.
 const CONTENT_OF_ZERO: i64 = 4_000_000;
 
 // A row's bound: the four bytes after the count, low byte first, signed.
@@ -57,7 +58,8 @@ fn highest(member: Member, sets: &[ValueSet]) -> i64
     }
 }
 
-// The least and the greatest that a member adds with a value of its set. (Both products before the test: so there is no branch.)
+// The least and the greatest that a member adds with a value of its set. (Both products are made
+// before the test, so there is no branch.)
 fn ends(member: Member, sets: &[ValueSet]) -> (i64, i64)
     ensures low { result.0 ≡ low sets.now member }
     ensures high { result.1 ≡ high sets.now member }
@@ -74,7 +76,8 @@ fn ends(member: Member, sets: &[ValueSet]) -> (i64, i64)
     }
 }
 
-// The sum of the greatest that each member adds, and the sum of what the fixed ones add, which is their greatest. (A loop: `sum` of signed numbers has no bound.)
+// The sum of the greatest that each member adds, and the sum of what the fixed ones add, which is
+// their greatest. (A loop: `sum` of signed numbers has no bound.)
 fn sums(row: &Row, sets: &[ValueSet]) -> (i64, i64)
     ensures greatest { result.0 ≡ total (high sets.now) (row_of row.now).members }
     ensures placed { result.1 ≡ total (placed sets.now) (row_of row.now).members }
@@ -111,7 +114,8 @@ fn values_within(coefficient: i16, slack: i64) -> ValueSet
     }
 }
 
-// Of a member's set only the values stay with which it adds at most the slack; says whether one went. The division is made only where one has to go.
+// Keeps of a member's set only the values with which it adds at most the slack; returns whether one
+// went. The division is made only where one has to go.
 fn keep_within(member: Member, sets: &mut [ValueSet], slack: i64) -> bool
     ensures after { sets.new ≡ cut member.voice (λ v. int_le (term member v) slack) sets.old }
     ensures value { result ≡ changed sets.new sets.old }
@@ -122,15 +126,19 @@ fn keep_within(member: Member, sets: &mut [ValueSet], slack: i64) -> bool
     keep_only(sets, member.voice, values_within(member.argument, slack))
 }
 
-// The least that each member adds, in order, the sum of these, and a number that no member's greatest is further above its least. All in one pass, since most of a
-// turn is spent here, and the terms in an array beside the members, since a turn takes no memory; in half the bits, so that less is cleared.
+// The least that each member adds, in order; the sum of these; and a number that no member's
+// greatest is further above its least. All in one pass, since most of a turn's time goes here. The
+// terms are in an array beside the members, since a turn takes no memory, and have half the bits,
+// so that less is cleared.
 fn lowest_terms(row: &Row, sets: &[ValueSet]) -> ([i32; MOST_MEMBERS], i64, i64)
     ensures long { length result.0 ≡ 32 }
-    ensures terms { take (length (row_of row.now).members) result.0 ≡ map (low sets.now) (row_of row.now).members }
+    ensures terms { take (length (row_of row.now).members) result.0 ≡
+        map (low sets.now) (row_of row.now).members }
     ensures small { (k : ℕ) → Near (32768 * 64) (slice_index_or result.0 k (pos 0)) }
     ensures sum { result.1 ≡ total (low sets.now) (row_of row.now).members }
     ensures near { Near (32 * 32768 * 64) result.1 }
-    ensures widest { list_all (λ m. int_le (high sets.now m -ℤ low sets.now m) result.2) (row_of row.now).members ≡ true }
+    ensures widest { list_all (λ m. int_le (high sets.now m -ℤ low sets.now m) result.2)
+        (row_of row.now).members ≡ true }
 {
     let mut lows = [0; MOST_MEMBERS];
     let mut sum = 0;
@@ -145,7 +153,7 @@ fn lowest_terms(row: &Row, sets: &[ValueSet]) -> ([i32; MOST_MEMBERS], i64, i64)
     (lows, sum, widest)
 }
 
-// Empties every member's set; says whether one had a value.
+// Empties every member's set; returns whether one had a value.
 fn empty_all(members: &[Member], sets: &mut [ValueSet]) -> bool
     ensures after { sets.new ≡ cuts (λ m v. false) members.now sets.old }
     ensures value { result ≡ changed sets.new sets.old }
@@ -173,11 +181,13 @@ fn is_in_range(row: &Row) -> bool
     bound(row).unsigned_abs() <= LARGEST_BOUND && are_small(row.members())
 }
 
-// The kind L.
+/// The kind of rows whose sum of coefficient × value is at most a bound; its letter is L.
 pub struct Linear;
 
 impl Linear {
-    /// The row with this bound and these terms, each a voice and its coefficient: the sum of coefficient × value is at most the bound.
+    /// The row with this bound and these terms, each a voice and its coefficient: the sum of
+    /// coefficient × value is at most the bound. A bound or a coefficient out of range is left to
+    /// `accept`.
     pub fn row(heap: Global, bound: i32, terms: &[(u8, i16)]) -> Result<Row, RowError>
         ensures { Constructs (if_counted (linear_row bound terms.now)) result }
     {
@@ -218,8 +228,8 @@ impl Kind for Linear {
         )
     }
 
-    // The least terms are those of the sets at the start of the turn: what it takes for one member does not count for the next, though a voice may
-    // stand twice.
+    // The least terms are those of the sets at the start of the turn: what the turn takes for one
+    // member does not count for the next, though a voice may be named twice.
     fn turn(row: &Row, sets: &mut [ValueSet]) -> bool
         ensures after { sets.new ≡ linear.turn (row_of row.now) sets.old }
         ensures value { result ≡ changed sets.new sets.old }
