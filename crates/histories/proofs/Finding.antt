@@ -25,7 +25,7 @@ says_found (going l ls) p e = cc
 says_found (found q) p e = cc
 says_found none p e = cc
 
--- a Solve that answers with values has left the search there
+-- a Solve that returns values has left the search there
 pub solve_found : (st : Behaviour) (m : Meaning) {t : Table} {v : st.State} {b : ℕ} {a : Answer} {u : Table} {w : st.State} (p : List ℕ)
     → Does st m t v (solve b) a u w → a ≡ Answer.found p → u.place ≡ found p
 solve_found st m p (Does.declines c n d) e = cc
@@ -48,7 +48,7 @@ pub wrote_ok : (r : Result ℕ Refusal) (after : List ℕ) (n : ℕ) (bytes : Li
 wrote_ok (Ok k) after n bytes e = refl
 wrote_ok (Err refusal) after n bytes e = cc
 
--- and what stands at the front are the values
+-- and the values are at the front
 pub wrote_values : (k : ℕ) (after p rest : List ℕ) → wrote k after ≡ wrote (length p) (p ++ rest) → take k after ≡ p
 wrote_values k after p rest e =
     let n : k ≡ length p = cc in

@@ -29,7 +29,7 @@ paired_push h (d ∷ calls) [] c a e = absurd (omega (arith, e))
 paired_push h (d ∷ calls) (b ∷ answers) c a e = paired_push ((d, b) ∷ h) calls answers c a (omega (arith, e))
 
 module _ (b : Behaviour) (m : Meaning) (g : b.State) where
-  -- a history with how the search stood after each call, newest first
+  -- a history with the progress of the search after each call, newest first
   abbrev pub Counted : List (Call × Answer) → List Progress → Table → b.State → Type 0
   Counted h ks t s = (H : History b m g h t s) × (progress_after H ≡ ks)
 

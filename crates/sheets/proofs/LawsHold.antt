@@ -1,4 +1,4 @@
--- The law of sheets, and what a Load comes to after any calls.
+-- The law of sheets, and what a Load leaves after any calls.
 use Rattle.std.proofs.Common.{true, false, is_err, Result, ◌≡◌, ℕ, List, [], ◌∷◌, sym, refl, ap, ◌∙◌, subst, subst₂, arith}
 use Rattle.rows.specs.Rows.{Meaning}
 use Rattle.rows.specs.Laws.{Laws}

@@ -29,7 +29,7 @@ module _ (b : Behaviour) (m : Meaning) (t u : Table) (v w : b.State) where
       → RecordRead b m t v (if_passes j i) (Ok (Some n)) u w
   passed j i n e f g h = subst (λ (x : Judgement). RecordRead b m t v (if_passes x i) (Ok (Some n)) u w) (sym e) (record { answer = f; table = g; store = h })
 
-  -- it was declined
+  -- it was refused
   turned_down : (j : Judgement) (i : RecordReading) (r : Result (Option ℕ) RecordRefusal) (refusal : Refusal) → Unsearched t → r ≡ Err (ByTable refusal)
       → (j ≡ Judgement.declined (refusal_number refusal)) × (u ≡ t) × (w ≡ v) → RecordRead b m t v (if_passes j i) r u w
   turned_down j i r refusal U e d =
@@ -79,7 +79,7 @@ module _ (b : Behaviour) (m : Meaning) (t u : Table) (v w : b.State) where
 
 -- ---- the records so far
 
--- Records were read up to the place `at`, from the state w on: what the rest comes to is what the sheet comes to.
+-- Records were read up to the place `at`, from the state w on: reading on gives what reading the sheet gives.
 pub record SoFar (b : Behaviour) (m : Meaning) (bs : List ℕ) (w : b.State) (t : Table) (v : b.State) (at : ℕ) : Type 0 where
   pub unsearched : Unsearched t
   pub inside : at ≤ length bs

@@ -18,9 +18,8 @@ pub record Holdable (m : Meaning) (voices : List ℕ) (rows : List RowData) : Ty
   pub limited : Limited m (begun voices rows)
   pub all_accepted : AllAccepted m rows (length voices)
 
--- A fault stands at the first record that is faulty: those before it are the records of voices and
--- rows that a table can have, and this one is judged after them, under the smallest number that
--- fits.
+-- The first record that is faulty: those before it are the records of voices and rows that a table
+-- can have, and this one is judged after them, under the smallest number that fits.
 pub record FirstFault (m : Meaning) (bs : List ℕ) (number place : ℕ) (layer : Layer) : Type 0 where
   pub voices : List ℕ
   pub rows : List RowData
@@ -33,7 +32,7 @@ pub record FirstFault (m : Meaning) (bs : List ℕ) (number place : ℕ) (layer 
 
 -- One sheet a table: the sheet of voices and rows that a table can have is accepted, and gives them
 -- back; an accepted sheet is the one of its voices and rows, which a table can have; and every
--- other sheet is declined at its first fault.
+-- other sheet is refused at its first fault.
 pub record SheetLawsHold (m : Meaning) : Type 0 where
   pub saved_loads : (voices : List ℕ) (rows : List RowData) → Holdable m voices rows
       → read_sheet m (sheet voices rows) ≡ accepted voices rows

@@ -1,4 +1,4 @@
--- What Load answers and leaves, and what lasts over whole histories of calls.
+-- What Load returns and leaves, and what lasts over whole histories of calls.
 use Rattle.std.specs.Prelude.{◌≡◌, ℕ, List, [], ◌∷◌, ◌++◌, length, Some, None, Ok, Err, Option, Result}
 use Rattle.rows.specs.declared.bank.Bank as bank
 use Rattle.rows.specs.Rows.{RowData, Meaning}
@@ -23,7 +23,7 @@ use Rattle.sheets.specs.Laws.{FirstFault, declared_after, posted_after}
 
 -- ---- answers
 
--- accepted, or declined: under which number, at which place and by which layer
+-- accepted, or refused: under which number, at which place and by which layer
 pub data LoadAnswer : Type 0 where
   loaded : LoadAnswer
   declined : ℕ → ℕ → Layer → LoadAnswer
@@ -40,14 +40,14 @@ reading_answer (refused number place layer) = declined number place layer
 
 -- ---- what a Load leaves
 
--- the table that a Load leaves: its search has not begun; after a declined one it is empty
+-- the table that a Load leaves: its search has not begun; after a refused one it is empty
 abbrev pub table_after : SheetReading → Table
 table_after (accepted voices rows) = begun voices rows
 table_after (refused n place layer) = empty
 
 -- After the calls h, over a store that was in the state g when the table was made, the records of a
--- sheet that comes to this have led to the table u and the state r: by its Declares and Posts, all
--- accepted; where it is declined, by those of the records before the first fault, and a Wipe. No
+-- sheet that is read as this have led to the table u and the state r: by its Declares and Posts, all
+-- accepted; where it is refused, by those of the records before the first fault, and a Wipe. No
 -- key is lost then, since each of these calls empties the store.
 abbrev pub FillHistory : (b : Behaviour) (m : Meaning) (g : b.State) (h : List (Call × Answer))
     (bytes : List ℕ) → SheetReading → Table → b.State → Type 0
@@ -104,7 +104,7 @@ LoadBack (refused number place layer) bytes saved = Unit {0}
 
 -- ---- one record
 
--- what reading a record answers: nothing for the sheet's end, its length, or a fault
+-- what reading a record returns: that the sheet ends, the record's length, or a fault
 pub data RecordAnswer : Type 0 where
   sheet_end : RecordAnswer
   record_length : ℕ → RecordAnswer

@@ -11,7 +11,7 @@ use Rattle.sheets.specs.Causes.{layer_of}
 
 -- ---- one record
 
--- What stands at the front of bytes: the sheet's end; a voice with this opening set; a row of these
+-- What is at the front of bytes: the sheet's end; a voice with this opening set; a row of these
 -- bytes; or a fault, by its number, how far from here its place is, and its layer.
 pub data RecordReading : Type 0 where
   last : RecordReading
@@ -19,17 +19,17 @@ pub data RecordReading : Type 0 where
   row : List ℕ → RecordReading
   fault : ℕ → ℕ → Layer → RecordReading
 
--- a voice or a row that is declined makes its record faulty
+-- a voice or a row that is refused makes its record faulty
 abbrev pub if_passes : Judgement → RecordReading → RecordReading
-if_passes Judgement.passes item = item
-if_passes (Judgement.declined n) item = fault n 0 (layer_of n)
+if_passes Judgement.passes reading = reading
+if_passes (Judgement.declined n) reading = fault n 0 (layer_of n)
 
 -- hex 5A, with what follows it: nothing may
 abbrev pub read_end : List ℕ → RecordReading
 read_end [] = last
 read_end (b ∷ bs) = fault 4 1 Sheet
 
--- hex 56, with what follows it, after these voices and rows: no row may stand before it, and the
+-- hex 56, with what follows it, after these voices and rows: no row may come before it, and the
 -- set has 8 bytes
 abbrev pub read_voice : Meaning → List ℕ → List RowData → List ℕ → RecordReading
 read_voice m voices (r ∷ rows) bs = fault 3 0 Sheet
@@ -47,7 +47,7 @@ abbrev pub read_row : Meaning → List ℕ → List RowData → List ℕ → Rec
 read_row m voices rows bs =
     if_passes (judge (row_reasons m voices rows (front_row m bs))) (row (front_row m bs))
 
--- what stands at the front of these bytes, after the records of these voices and rows
+-- what is at the front of these bytes, after the records of these voices and rows
 abbrev pub read_record : Meaning → List ℕ → List RowData → List ℕ → RecordReading
 read_record m voices rows [] = fault 1 0 Sheet
 read_record m voices rows (b ∷ bs) =
@@ -56,13 +56,13 @@ read_record m voices rows (b ∷ bs) =
 
 -- ---- all records
 
--- what a sheet comes to: voices and rows, or a fault, by its number, its place and its layer
+-- what a sheet is read as: voices and rows, or a fault, by its number, its place and its layer
 pub data SheetReading : Type 0 where
   accepted : List ℕ → List RowData → SheetReading
   refused : ℕ → ℕ → Layer → SheetReading
 
--- what this at the front comes to, at the place `at`, after the records of these voices and rows;
--- `next` says what all comes to that follows it
+-- what the bytes are read as with this at their front, which is at the place `at`, after the records
+-- of these voices and rows; `next` says what the bytes after it are read as
 abbrev pub read_on : Meaning → (ℕ → List ℕ → List RowData → List ℕ → SheetReading)
     → ℕ → List ℕ → List RowData → List ℕ → RecordReading → SheetReading
 read_on m next at voices rows bs last = accepted voices rows

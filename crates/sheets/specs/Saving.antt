@@ -1,4 +1,4 @@
--- What Save answers and writes.
+-- What Save returns and writes.
 use Rattle.rows.specs.declared.bank.Bank as bank
 use Rattle.stores.specs.declared.store.Store as store
 use Rattle.std.specs.Prelude.{◌≡◌, ℕ, cond, List, ◌++◌, length, drop, Ok, Err, Result, nat_le}

@@ -113,7 +113,7 @@ fn read_records<B: Bank, S: Store>(
 }
 
 // Leaves no voices and no rows where the sheet was refused.
-fn wipe_declined<B: Bank, S: Store>(table: &mut Table<B, S>, res: &Result<(), SheetRefusal>)
+fn wipe_refused<B: Bank, S: Store>(table: &mut Table<B, S>, res: &Result<(), SheetRefusal>)
     ensures declined { is_err res.now ≡ true → CallDone table.old Call.wipe Answer.done table.new }
     ensures accepted { is_err res.now ≡ false → table.new ≡ table.old }
 {
@@ -122,15 +122,17 @@ fn wipe_declined<B: Bank, S: Store>(table: &mut Table<B, S>, res: &Result<(), Sh
     }
 }
 
-// Gives an empty table, whose search has not begun, the voices and rows of the sheet. A declined sheet leaves no voices and no rows.
+// Gives an empty table, whose search has not begun, the voices and rows of the sheet. A refused sheet
+// leaves no voices and no rows.
 fn fill<B: Bank, S: Store>(table: &mut Table<B, S>, bytes: &[u8]) -> Result<(), SheetRefusal>
     requires { model table.old ≡ empty }
     ensures value { load_answer result ≡ reading_answer (read_sheet B.Bank.meaning bytes.now) }
     ensures after { model table.new ≡ table_after (read_sheet B.Bank.meaning bytes.now) }
-    ensures history { FillExtends S.Store.behaviour B.Bank.meaning (store_in table.old) bytes.now (model table.new) (store_in table.new) }
+    ensures history { FillExtends S.Store.behaviour B.Bank.meaning (store_in table.old) bytes.now
+        (model table.new) (store_in table.new) }
 {
     let result = read_records(table, bytes);
-    wipe_declined(table, &result);
+    wipe_refused(table, &result);
     result
 }
 
@@ -148,13 +150,15 @@ pub fn load_new<B: Bank, S: Store + Drop>(
     Ok((table, result))
 }
 
-/// Gives the table the voices and rows of the sheet, in place of its own. The store is emptied, and the search has not begun. A declined sheet leaves no
-/// voices and no rows.
+/// Gives the table the voices and rows of the sheet, in place of its own. The store is emptied, and
+/// the search has not begun. A refused sheet leaves no voices and no rows.
 pub fn load<B: Bank, S: Store>(table: &mut Table<B, S>, bytes: &[u8]) -> Result<(), SheetRefusal>
     ensures value { load_answer result ≡ reading_answer (read_sheet B.Bank.meaning bytes.now) }
-    ensures after { LoadLeaves S.Store.behaviour B.Bank.meaning bytes.now (store_in table.old) (model table.new) (store_in table.new) }
+    ensures after { LoadLeaves S.Store.behaviour B.Bank.meaning bytes.now (store_in table.old)
+        (model table.new) (store_in table.new) }
     ensures back { LoadBack (read_sheet B.Bank.meaning bytes.now) bytes.now (sheet_of table.new) }
-    ensures history { LoadExtends S.Store.behaviour B.Bank.meaning (model table.old) (store_in table.old) bytes.now (model table.new) (store_in table.new) }
+    ensures history { LoadExtends S.Store.behaviour B.Bank.meaning (model table.old)
+        (store_in table.old) bytes.now (model table.new) (store_in table.new) }
 {
     table.wipe();
     fill(table, bytes)

@@ -54,8 +54,8 @@ abbrev pub build_verdict : Meaning → ℕ → List ℕ → List Member → ℕ 
 build_verdict m letter body members room =
     and_verdict (begin_verdict m letter body room) (count_verdict body members)
 
--- the memory afterwards: where Begin accepts, the row with the members that were given stands at
--- its front
+-- the memory afterwards: where Begin accepts, the row with the members that were given is at its
+-- front
 abbrev pub build_memory : Meaning → ℕ → List ℕ → List Member → List ℕ → List ℕ
 build_memory m letter body members memory =
     cond (is_ok (begin_verdict m letter body (length memory)))
