@@ -1,24 +1,34 @@
 -- The job's calls, and what their report says.
-use Rattle.std.proofs.Common.{◌≡◌, ℕ, ◌<◌, ◌≤◌, true, false, List, [], ◌∷◌, length, take, is_ok, Ok, Err, Result, min, ◌⊎◌, inl, inr, sym, refl, ap, ◌∙◌, subst, subst₂, arith}
+use Rattle.std.proofs.Common.{◌≡◌, ℕ, ◌<◌, ◌≤◌, true, false, List, [], ◌∷◌, length, take, codes, Ok, Err, Result, min, ◌⊎◌, inl, inr, sym, refl, ap, ◌∙◌, subst, subst₂, arith}
+use Rattle.std.specs.Result.{result_unwrap_or}
 use Rattle.std.proofs.lemmas.Bool.{both_ways, cases_lt}
 use Rattle.std.proofs.lemmas.List.{take_all}
 use Rattle.rows.specs.Rows.{RowData, Meaning}
 use Rattle.rows.specs.Laws.{Laws}
+use Rattle.rows.specs.Refusing.{Judgement}
 use Rattle.stores.specs.Behaviours.{Behaviour}
 use Rattle.search.specs.Limits.{most_budget}
-use Rattle.search.specs.Calls.{Table, begun, Answer, Judgement, judged, Does}
+use Rattle.search.specs.Search.{Place}
+use Rattle.search.specs.Search.Place.{fresh, going, found, none}
+use Rattle.search.specs.Calls.{Table, begun, Answer, judged, over, result, place_answer, Does}
 use Rattle.search.specs.Calls.Call.{solve}
 use Rattle.search.specs.Histories.{History, keys_lost, LeadsTo, declared_voices, posted_rows}
-use Rattle.search.specs.Results.{SolveMeans, Invariant}
+use Rattle.search.specs.Results.{SolveMeans}
 use Rattle.search.proofs.OverEvery.{invariant_holds, solve_keeps_budget, answers_hold, tables_given}
-use Rattle.sheets.specs.declared.refusal.SheetRefusal.{SheetRefusal}
-use Rattle.sheets.specs.Reading.{SheetReading, read_sheet}
+use Rattle.table.specs.declared.outcome.Outcome.{Outcome}
+use Rattle.table.specs.declared.outcome.Outcome.TheVariants.{Stopped, Found, None}
+use Rattle.table.specs.declared.refusal.Refusal.{Refusal}
+use Rattle.table.specs.Outcomes.{outcome_name}
+use Rattle.table.specs.Searches.{outcome_of}
+use Rattle.table.specs.Shown.{solve_answer}
+use Rattle.sheets.specs.Reading.{SheetReading}
 use Rattle.sheets.specs.Reading.SheetReading.{accepted, refused}
-use Rattle.sheets.specs.Laws.{loaded_after}
-use Rattle.sheets.specs.Loading.{table_after, LoadAnswer, load_answer, reading_answer, LoadHistory}
+use Rattle.sheets.specs.Laws.{declared_after, posted_after}
+use Rattle.sheets.specs.Loading.{table_after, LoadAnswer, reading_answer, FillHistory}
 use Rattle.sheets.specs.Loading.LoadAnswer.{loaded, declined}
-use Rattle.job.specs.Texts.{report_text}
-use Rattle.job.specs.Planned.{most_sheet, JobHistory, Right, Planned}
+use Rattle.job.specs.Promised.{most_sheet, Reports}
+use Rattle.job.specs.Texts.{outcome_text, searched_text}
+use Rattle.job.specs.Planned.{SheetSolved}
 
 -- the first 20,000 bytes
 pub sheet_front : (sheet : List ℕ) (n : ℕ) → n ≡ min (length sheet) 20000 → take n sheet ≡ take most_sheet sheet
@@ -34,71 +44,77 @@ abbrev IsLoaded : LoadAnswer → Type 0
 IsLoaded loaded = Unit {0}
 IsLoaded (declined number place layer) = ⊥
 
--- ---- what is shown of a job
+-- ---- outcomes
 
-record Shown (b : Behaviour) (m : Meaning) (g : b.State) (sheet : List ℕ) (o : SheetReading) (text : List ℕ) : Type 0 where
-  table : Table
-  state : b.State
-  lost : ℕ
-  history : JobHistory b m g sheet o table state lost
-  invariant : Invariant m lost table (b.view state)
-  reported : text ≡ report_text (reading_answer o) table
-  right : Right m o table
+-- what an answer of Solve says that the search has come to
+abbrev answer_outcome : Answer → Outcome
+answer_outcome Answer.done = Stopped
+answer_outcome (Answer.refused n) = Stopped
+answer_outcome (Answer.found p) = Found
+answer_outcome Answer.none = None
+answer_outcome Answer.stopped = Stopped
+answer_outcome (Answer.wrote n b) = Stopped
 
-planned : (b : Behaviour) (m : Meaning) (g : b.State) (sheet text : List ℕ) → Shown b m g sheet (read_sheet m sheet) text → Planned b m g sheet text
-planned b m g sheet text p = record {
-  table = p.table;
-  state = p.state;
-  lost = p.lost;
-  history = p.history;
-  invariant = p.invariant;
-  reported = p.reported;
-  right = p.right;
-}
+solve_outcome : (r : Result Outcome Refusal) (values : List ℕ) → result_unwrap_or r Stopped ≡ answer_outcome (solve_answer r values)
+solve_outcome (Ok Stopped) values = refl
+solve_outcome (Ok Found) values = refl
+solve_outcome (Ok None) values = refl
+solve_outcome (Err refusal) values = refl
 
-module _ (b : Behaviour) (m : Meaning) (L : Laws m) (g : b.State) (sheet text : List ℕ) where
+place_outcome : (p : Place) → answer_outcome (place_answer p) ≡ outcome_of p
+place_outcome fresh = refl
+place_outcome (going l ls) = refl
+place_outcome (found p) = refl
+place_outcome none = refl
+
+place_stops : (p : Place) → over p ≡ false → place_answer p ≡ Answer.stopped
+place_stops fresh h = refl
+place_stops (going l ls) h = refl
+place_stops (found p) h = absurd (both_ways true h refl)
+place_stops none h = absurd (both_ways true h refl)
+
+-- the report of a search that stands here
+reports_place : (m : Meaning) (voices : List ℕ) (rows : List RowData) (p : Place) (opened exhausted : ℕ) → SolveMeans m voices rows (place_answer p)
+    → (over p ≡ false → opened ≡ 1_000_000) → Reports m voices rows (outcome_text (outcome_name (outcome_of p)) opened exhausted (result p))
+reports_place m voices rows fresh opened exhausted s h =
+    subst (λ (n : ℕ). Reports m voices rows (outcome_text (codes "stopped") n exhausted [])) (sym (h refl)) (Reports.stopped exhausted)
+reports_place m voices rows (going l ls) opened exhausted s h =
+    subst (λ (n : ℕ). Reports m voices rows (outcome_text (codes "stopped") n exhausted [])) (sym (h refl)) (Reports.stopped exhausted)
+reports_place m voices rows (found p) opened exhausted s h = Reports.found p opened exhausted s
+reports_place m voices rows none opened exhausted s h = Reports.none opened exhausted s
+
+-- ---- a sheet loaded into a new table
+
+module _ (b : Behaviour) (m : Meaning) (L : Laws m) (g : b.State) (sheet : List ℕ) where
   -- the Solve of an accepted sheet
-  solved : (voices : List ℕ) (rows : List RowData) (t u : Table) (v w : b.State) (a : Answer) → t ≡ begun voices rows
-      → History b m g (loaded_after [] voices rows) t v → Does b m t v (solve most_budget) a u w → text ≡ report_text loaded u
-      → Shown b m g sheet (accepted voices rows) text
-  solved voices rows t u v w a e H D r =
-      let calls = loaded_after [] voices rows in
+  solved : (voices : List ℕ) (rows : List RowData) (t u : Table) (v w : b.State) (r : Result Outcome Refusal) (values : List ℕ)
+      → t ≡ begun voices rows → History b m g (posted_after (declared_after [] voices) rows) t v
+      → Does b m t v (solve most_budget) (solve_answer r values) u w
+      → SheetSolved b m g sheet (accepted voices rows) (Ok (result_unwrap_or r Stopped)) u w
+  solved voices rows t u v w r values e H D =
+      let a = solve_answer r values in
+      let calls = posted_after (declared_after [] voices) rows in
       let j : judged m t (solve most_budget) ≡ Judgement.passes = ap (λ (x : Table). judged m x (solve most_budget)) e in
       let k = (solve_keeps_budget b m t v most_budget a u w j D).0 in
       let all : History b m g ((solve most_budget, a) ∷ calls) u w = History.then calls t u v w (solve most_budget) a H tt D in
       let given = tables_given b m g calls t v H in
       let says_so : SolveMeans m (declared_voices calls) (posted_rows m calls) a = answers_hold b m L g [] calls most_budget a u w all in
+      let means : SolveMeans m voices rows (place_answer u.place) = subst (λ (x : Answer). SolveMeans m voices rows x) k.answer
+      (subst₂ (λ (vs : List ℕ) (rs : List RowData). SolveMeans m vs rs a) (sym given.0 ∙ ap (λ (x : Table). x.voices) e) (sym given.1 ∙ ap (λ (x : Table). x.rows) e) says_so) in
+      let outcome : result_unwrap_or r Stopped ≡ outcome_of u.place = solve_outcome r values ∙ ap answer_outcome k.answer ∙ place_outcome u.place in
+      let reported : searched_text (result_unwrap_or r Stopped) u ≡ searched_text (outcome_of u.place) u = ap (λ (o : Outcome). searched_text o u) outcome in
+      let spent : over u.place ≡ false → u.opened ≡ 1_000_000 =
+      λ h. let stops = (k.stopped_exactly.0 (k.answer ∙ place_stops u.place h)).0 in omega (arith, stops, ap (λ (x : Table). x.opened) e) in
       record {
-        table = u;
-        state = w;
         lost = keys_lost all;
         history = subst (λ (x : Answer). LeadsTo b m g ((solve most_budget, x) ∷ calls) u w (keys_lost all)) k.answer (all, refl);
         invariant = invariant_holds b m L g ((solve most_budget, a) ∷ calls) u w all;
-        reported = r;
-        right = subst (λ (x : Answer). SolveMeans m voices rows x) k.answer
-            (subst₂ (λ (vs : List ℕ) (rs : List RowData). SolveMeans m vs rs a) (sym given.0 ∙ ap (λ (x : Table). x.voices) e) (sym given.1 ∙ ap (λ (x : Table). x.rows) e) says_so);
+        reported = reported;
+        promised = subst (Reports m voices rows) (sym reported) (reports_place m voices rows u.place u.opened u.exhausted means spent);
       }
 
-  pub solved_job : (o : SheetReading) (r : Result (Unit {0}) SheetRefusal) (t u : Table) (v w : b.State) (a : Answer) → is_ok r ≡ true
-      → load_answer r ≡ reading_answer o → o ≡ read_sheet m sheet → t ≡ table_after o → LoadHistory b m g [] sheet o t v → Does b m t v (solve most_budget) a u w
-      → text ≡ report_text (load_answer r) u → Planned b m g sheet text
-  solved_job o (Err f) t u v w a k e f' l H D s = absurd (both_ways false refl k)
-  solved_job (refused number place layer) (Ok y) t u v w a k e f l H D s = absurd (subst IsLoaded e tt)
-  solved_job (accepted voices rows) (Ok y) t u v w a k e f l H D s =
-      planned b m g sheet text (subst (λ (o : SheetReading). Shown b m g sheet o text) f (solved voices rows t u v w a l H.0 D s))
-
-  pub declined_job : (o : SheetReading) (r : Result (Unit {0}) SheetRefusal) (t : Table) (v : b.State) → is_ok r ≡ false
-      → load_answer r ≡ reading_answer o → o ≡ read_sheet m sheet → LoadHistory b m g [] sheet o t v → Invariant m 0 t (b.view v)
-      → text ≡ report_text (load_answer r) t → Planned b m g sheet text
-  declined_job o (Ok y) t v k e f H z s = absurd (both_ways true k refl)
-  declined_job (accepted voices rows) (Err f') t v k e f H z s = absurd (subst IsLoaded (sym e) tt)
-  declined_job (refused number place layer) (Err f') t v k e f H z s =
-      planned b m g sheet text (subst (λ (o : SheetReading). Shown b m g sheet o text) f (record {
-        table = t;
-        state = v;
-        lost = 0;
-        history = (H, refl);
-        invariant = z;
-        reported = s ∙ ap (λ (x : LoadAnswer). report_text x t) e;
-        right = tt;
-      }))
+  pub sheet_solved : (o : SheetReading) (t u : Table) (v w : b.State) (r : Result Outcome Refusal) (values : List ℕ)
+      → loaded ≡ reading_answer o → t ≡ table_after o → FillHistory b m g [] sheet o t v
+      → Does b m t v (solve most_budget) (solve_answer r values) u w → SheetSolved b m g sheet o (Ok (result_unwrap_or r Stopped)) u w
+  sheet_solved (accepted voices rows) t u v w r values e l H D = solved voices rows t u v w r values l H.0 D
+  sheet_solved (refused number place layer) t u v w r values e l H D = absurd (subst IsLoaded e tt)

@@ -1,17 +1,28 @@
--- How long a report is: far less than the numbers of 64 bits reach.
-use Rattle.std.proofs.Common.{◌≡◌, ℕ, zero, suc, ◌+◌, ◌*◌, ◌/◌, ◌%◌, ◌^◌, ◌<◌, ◌≤◌, Bool, true, false, cond, eqb, List, [], ◌∷◌, ◌++◌, length, codes, decimal, arith}
+-- How long a report is at most.
+use Rattle.rows.specs.declared.bank.Bank as bank
+use Rattle.stores.specs.declared.store.Store as store
+use Rattle.std.proofs.Common.{◌≡◌, ℕ, zero, suc, ◌+◌, ◌*◌, ◌/◌, ◌%◌, ◌≤◌, Bool, true, false, cond, eqb, List, [], ◌∷◌, ◌++◌, length, codes, decimal, map, vec_items, Ok, Err, Result, arith}
+use lib.Count.{trailing_le}
 use Rattle.std.specs.Fmt.{digit_glyph, digits_onto, digits}
+use Rattle.std.proofs.lemmas.Fmt.{length-decimal-le}
 use Rattle.std.proofs.lemmas.List.{length-append}
-use Rattle.search.specs.Calls.{Table, result}
+use Rattle.sets.specs.Sets.{least}
+use Rattle.search.specs.Search.{Level}
+use Rattle.search.specs.Calls.{result}
+use Rattle.table.specs.declared.engine.level.End.{End}
+use Rattle.table.specs.declared.engine.level.End.TheVariants.{Fresh, Found, Exhausted}
 use Rattle.table.specs.declared.outcome.Outcome.{Outcome}
-use Rattle.table.specs.declared.outcome.Outcome.TheVariants.{Stopped, Found, None}
+use Rattle.table.specs.declared.outcome.Outcome.TheVariants as outcome
+use Rattle.table.specs.declared.table.Table as tables
+use Rattle.table.specs.Outcomes.{outcome_name}
+use Rattle.table.specs.Places.{place_of}
+use Rattle.table.specs.Searches.{levels_of}
+use Rattle.table.specs.Shown.{model, found_in}
 use Rattle.sheets.specs.declared.refusal.Layer.{Layer}
 use Rattle.sheets.specs.declared.refusal.Layer.TheVariants as layer
-use Rattle.table.specs.Searches.{outcome_of}
-use Rattle.sheets.specs.Causes.{layer_name}
-use Rattle.sheets.specs.Loading.{LoadAnswer}
-use Rattle.sheets.specs.Loading.LoadAnswer.{loaded, declined}
-use Rattle.job.specs.Texts.{refused_line, outcome_line, count_line, value_line, value_lines, table_text, report_text}
+use Rattle.sheets.specs.declared.refusal.SheetRefusal.{SheetRefusal}
+use Rattle.sheets.specs.Causes.{cause_number, layer_name, cause_layer}
+use Rattle.job.specs.Texts.{refused_line, outcome_line, count_line, value_line, value_lines, sheet_text}
 
 -- ---- numbers
 
@@ -47,42 +58,56 @@ count_line_length name n = omega (arith, length-append name (codes " " ++ (decim
 pub value_line_length : (i v : ℕ) → length (value_line i v) ≡ length (decimal i) + length (decimal v) + 2
 value_line_length i v = omega (arith, length-append (decimal i) (codes " " ++ (decimal v ++ (0x0A ∷ []))), length-append (decimal v) (0x0A ∷ []))
 
-pub value_lines_length : (i : ℕ) (values : List ℕ) → length (value_lines i values) ≤ 130 * length values
-value_lines_length i [] = omega arith
-value_lines_length i (v ∷ values) =
-    omega (arith, length-append (value_line i v) (value_lines (suc i) values), value_line_length i v, decimal_at_most i, decimal_at_most v, value_lines_length (suc i) values)
+-- values are the least of sets: 64 at most
+value_lines_length : (i : ℕ) (sets : List ℕ) → i + length sets ≤ 80 → length (value_lines i (map least sets)) ≤ 6 * length sets
+value_lines_length i [] h = omega arith
+value_lines_length i (s ∷ sets) h =
+    omega (
+      arith,
+      length-append (value_line i (least s)) (value_lines (suc i) (map least sets)),
+      value_line_length i (least s),
+      length-decimal-le 2 i (omega arith) (omega arith) (omega arith),
+      length-decimal-le 2 (least s) (omega arith) (omega (arith, trailing_le 64 s)) (omega (arith, trailing_le 64 s)),
+      value_lines_length (suc i) sets (omega arith),
+    )
 
-pub outcome_line_length : (o : Outcome) → length (outcome_line o) ≤ 8
-outcome_line_length Stopped = omega arith
-outcome_line_length Found = omega arith
-outcome_line_length None = omega arith
+found_lines_length : (e : End) (sets : List ℕ) (levels : List Level) → length sets ≤ 80 → length (value_lines 0 (result (place_of e sets levels))) ≤ 480
+found_lines_length Fresh sets [] h = omega arith
+found_lines_length Found sets [] h = omega (arith, value_lines_length 0 sets (omega arith))
+found_lines_length Exhausted sets [] h = omega arith
+found_lines_length e sets (l ∷ levels) h = omega arith
+
+outcome_line_length : (o : Outcome) → length (outcome_line (outcome_name o)) ≤ 8
+outcome_line_length outcome.Stopped = omega arith
+outcome_line_length outcome.Found = omega arith
+outcome_line_length outcome.None = omega arith
 
 layer_name_length : (l : Layer) → length (layer_name l) ≤ 5
 layer_name_length layer.Sheet = omega arith
 layer_name_length layer.Row = omega arith
 layer_name_length layer.Table = omega arith
 
-refused_line_fits : (number place : ℕ) (l : Layer) → length (refused_line number place l) < 2 ^ 64
-refused_line_fits number place l =
-    omega (arith, refused_line_length number place l, decimal_at_most number, decimal_at_most place, layer_name_length l)
-
 -- ---- reports
 
-table_text_fits : (t : Table) → length (result t.place) ≤ 80 → length (table_text t) < 2 ^ 64
-table_text_fits t h =
+pub sheet_text_fits : {B S : Type 0} {b : bank.Ghosts B} {s : store.Ghosts S} (r : Result Outcome SheetRefusal) (t : tables.Table B S b s) → length (sheet_text r (model t)) ≤ 534
+sheet_text_fits (Ok o) t =
     omega (
       arith,
-      length-append (outcome_line (outcome_of t.place)) (count_line (codes "opened") t.opened ++ (count_line (codes "exhausted") t.exhausted ++ value_lines 0 (result t.place))),
-      length-append (count_line (codes "opened") t.opened) (count_line (codes "exhausted") t.exhausted ++ value_lines 0 (result t.place)),
-      length-append (count_line (codes "exhausted") t.exhausted) (value_lines 0 (result t.place)),
-      outcome_line_length (outcome_of t.place),
-      count_line_length (codes "opened") t.opened,
-      decimal_at_most t.opened,
-      count_line_length (codes "exhausted") t.exhausted,
-      decimal_at_most t.exhausted,
-      value_lines_length 0 (result t.place),
+      length-append (outcome_line (outcome_name o)) (count_line (codes "opened") t.search.opened ++ (count_line (codes "exhausted") t.search.exhausted ++ value_lines 0 (found_in t))),
+      length-append (count_line (codes "opened") t.search.opened) (count_line (codes "exhausted") t.search.exhausted ++ value_lines 0 (found_in t)),
+      length-append (count_line (codes "exhausted") t.search.exhausted) (value_lines 0 (found_in t)),
+      outcome_line_length o,
+      count_line_length (codes "opened") t.search.opened,
+      length-decimal-le 13 t.search.opened (omega arith) (omega (arith, t.search.bounded)) (omega (arith, t.search.bounded)),
+      count_line_length (codes "exhausted") t.search.exhausted,
+      length-decimal-le 14 t.search.exhausted (omega arith) (omega (arith, t.search.bounded, t.search.spent)) (omega (arith, t.search.bounded, t.search.spent)),
+      found_lines_length t.search.end (vec_items t.search.sets) (levels_of t.search) (omega (arith, t.search.few, t.search.sets.ok.0)),
     )
-
-pub report_fits : (a : LoadAnswer) (t : Table) → length (result t.place) ≤ 80 → length (report_text a t) < 2 ^ 64
-report_fits loaded t h = table_text_fits t h
-report_fits (declined number place l) t h = refused_line_fits number place l
+sheet_text_fits (Err f) t =
+    omega (
+      arith,
+      refused_line_length (cause_number f.cause) f.place (cause_layer f.cause),
+      decimal_at_most (cause_number f.cause),
+      decimal_at_most f.place,
+      layer_name_length (cause_layer f.cause),
+    )

@@ -1,2 +1,3 @@
+pub mod Promised
 pub mod Texts
 pub mod Planned

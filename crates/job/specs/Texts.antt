@@ -1,11 +1,12 @@
 -- What Report writes. Lines end in hex 0A; numbers are in decimal.
-use Rattle.std.specs.Prelude.{ℕ, suc, List, [], ◌∷◌, ◌++◌, codes, decimal}
+use Rattle.std.specs.Prelude.{ℕ, suc, List, [], ◌∷◌, ◌++◌, codes, decimal, Ok, Err, Result}
 use Rattle.search.specs.Calls.{Table, result}
 use Rattle.table.specs.declared.outcome.Outcome.{Outcome}
 use Rattle.table.specs.Outcomes.{outcome_name}
 use Rattle.table.specs.Searches.{outcome_of}
 use Rattle.sheets.specs.declared.refusal.Layer.{Layer}
-use Rattle.sheets.specs.Causes.{layer_name}
+use Rattle.sheets.specs.declared.refusal.SheetRefusal.{SheetRefusal}
+use Rattle.sheets.specs.Causes.{cause_number, layer_name, cause_layer}
 use Rattle.sheets.specs.Loading.{LoadAnswer}
 use Rattle.sheets.specs.Loading.LoadAnswer.{loaded, declined}
 
@@ -20,10 +21,11 @@ abbrev pub refused_line : ℕ → ℕ → Layer → List ℕ
 refused_line number place layer =
     codes "refused " ++ (decimal number ++ (codes " at " ++ (decimal place ++ (codes " in " ++ (layer_name layer ++ line_end)))))
 
--- ---- a table
+-- ---- a sheet that was searched
 
-abbrev pub outcome_line : Outcome → List ℕ
-outcome_line o = outcome_name o ++ line_end
+-- what a search has come to, as `found`
+abbrev pub outcome_line : List ℕ → List ℕ
+outcome_line name = name ++ line_end
 
 -- as `opened 2`, where the name is `opened`
 abbrev pub count_line : List ℕ → ℕ → List ℕ
@@ -38,14 +40,23 @@ abbrev pub value_lines : ℕ → List ℕ → List ℕ
 value_lines i [] = []
 value_lines i (v ∷ values) = value_line i v ++ value_lines (suc i) values
 
--- what the search has come to, its counts, and the found values
-abbrev pub table_text : Table → List ℕ
-table_text t =
-    outcome_line (outcome_of t.place)
-    ++ (count_line (codes "opened") t.opened ++ (count_line (codes "exhausted") t.exhausted ++ value_lines 0 (result t.place)))
+-- what the search has come to, how many nodes it opened and exhausted, and the found values
+abbrev pub outcome_text : List ℕ → ℕ → ℕ → List ℕ → List ℕ
+outcome_text name opened exhausted values =
+    outcome_line name ++ (count_line (codes "opened") opened ++ (count_line (codes "exhausted") exhausted ++ value_lines 0 values))
 
--- ---- after a Load
+-- ---- a table
 
+-- where its search has come to this
+abbrev pub searched_text : Outcome → Table → List ℕ
+searched_text o t = outcome_text (outcome_name o) t.opened t.exhausted (result t.place)
+
+-- after a Load with this answer
 abbrev pub report_text : LoadAnswer → Table → List ℕ
-report_text loaded t = table_text t
+report_text loaded t = searched_text (outcome_of t.place) t
 report_text (declined number place layer) t = refused_line number place layer
+
+-- of a sheet that was declined for this fault, or for which the table's search has come to this
+abbrev pub sheet_text : Result Outcome SheetRefusal → Table → List ℕ
+sheet_text (Ok outcome) t = searched_text outcome t
+sheet_text (Err fault) t = refused_line (cause_number fault.cause) fault.place (cause_layer fault.cause)

@@ -1,55 +1,63 @@
-// The whole job of the program: a sheet loaded, solved and reported.
+//! The whole job of the program: a sheet loaded, solved and reported.
 #![tactic(auto)]
 
-ghost use Rattle.std.specs.Prelude.{◌≡◌, take, IfOk};
-ghost use Rattle.table.specs.Shown.{model};
-ghost use Rattle.sheets.specs.Loading.{load_answer};
-ghost use Rattle.job.specs.Texts.{report_text};
-ghost use Rattle.job.specs.Planned.{most_sheet, Planned};
+ghost use Rattle.std.specs.Prelude.{take, IfOk};
+ghost use Rattle.table.specs.Shown.{model, store_in};
+ghost use Rattle.sheets.specs.Reading.{read_sheet};
+ghost use Rattle.job.specs.Promised.{most_sheet, Promised};
+ghost use Rattle.job.specs.Planned.{SolvesLoaded, Planned};
 
-use table::Table;
-use crate::report::{report, report_length};
+use crate::report::{MOST_REPORT, written_report};
 use rows::bank::Bank;
+use sheets::load::load_new;
 use sheets::refusal::SheetRefusal;
-use sheets::load::load;
 use std::alloc::{AllocError, Global};
 use stores::store::Store;
+use table::Table;
+use table::outcome::Outcome;
 
 mod lines;
 pub mod report;
 pub mod standard;
 
-// How many bytes of a sheet are read at most, and the budget of the search.
+/// How many bytes of a sheet are read at most; what follows them is as if it were not there.
 pub const MOST_SHEET: usize = 20_000;
 
+/// How many nodes the search opens at most: the largest budget of a Solve.
 const BUDGET: u64 = 1_000_000;
 
-// The report of the table, after a Load with this answer, in memory of its own. (Answer and table beside each other, as in report.)
-fn written_report<B: Bank, S: Store>(
-    heap: Global,
+// Solves a table that a Load has just left with this answer, unless it refused the sheet. (Solve
+// refuses neither this budget nor a search that has not begun.)
+fn solve_loaded<B: Bank, S: Store>(
+    table: &mut Table<B, S>,
     answer: Result<(), SheetRefusal>,
-    table: &Table<B, S>,
-) -> Result<Vec<u8>, AllocError>
-    ensures { IfOk result (λ text. text.items ≡ report_text (load_answer answer) (model table.now)) }
+) -> Result<Outcome, SheetRefusal>
+    ensures { SolvesLoaded S.Store.behaviour B.Bank.meaning answer
+        (model table.old) (store_in table.old) result (model table.new) (store_in table.new) }
 {
-    let mut text = vec![in heap; 0u8; report_length(answer, table)]?;
-    let _ = report(answer, table, &mut text);
-    Ok(text)
+    answer?;
+    Ok(table.solve(BUDGET).unwrap_or(Outcome::Stopped))
 }
 
-// Loads the sheet, of which the first 20,000 bytes count, into a table over the store, solves it, and answers what is to be printed.
+/// Returns the report of the sheet, of which the first 20,000 bytes count: what a search for the
+/// least lawful placing has come to, or the sheet's first fault.
+///
+/// # Errors
+/// There is no memory for the table or the report.
 pub fn plan<B: Bank, S: Store + Drop>(
     heap: Global,
     store: S,
     sheet: &[u8],
 ) -> Result<Vec<u8>, AllocError>
-    ensures { IfOk result (λ text. Planned S.Store.behaviour B.Bank.meaning (S.Store.state store) (take most_sheet sheet.now) text.items) }
+    ensures promise { IfOk result (λ text.
+        Promised B.Bank.meaning (read_sheet B.Bank.meaning (take most_sheet sheet.now))
+        text.items) }
+    ensures history { IfOk result (λ text.
+        Planned S.Store.behaviour B.Bank.meaning (S.Store.state store)
+        (take most_sheet sheet.now) text.items) }
 {
-    let mut table: Table<B, S> = Table::make(heap, store)?;
     let length = sheet.len().min(MOST_SHEET);
-    let answer = load(&mut table, &sheet[..length]);
-    if answer.is_ok() {
-        let _ = table.solve(BUDGET);
-    }
-    written_report(heap, answer, &table)
+    let (mut table, answer) = load_new::<B, S>(heap, store, &sheet[..length])?;
+    let come_to = solve_loaded(&mut table, answer);
+    written_report(come_to, &table, &mut [0u8; MOST_REPORT]).to_vec(heap)
 }

@@ -1,12 +1,13 @@
 // Lines of a report.
 ghost use Rattle.std.specs.Prelude.{◌≡◌};
 ghost use Rattle.rows.specs.Written.{Wrote};
+ghost use Rattle.table.specs.Outcomes.{outcome_name};
 ghost use Rattle.sheets.specs.Causes.{cause_number, cause_layer};
 ghost use Rattle.job.specs.Texts.{line_end, refused_line, outcome_line, count_line, value_line, value_lines};
 
-use table::outcome::Outcome;
-use sheets::refusal::SheetRefusal;
 use rows::writer::Writer;
+use sheets::refusal::SheetRefusal;
+use table::outcome::Outcome;
 
 // The end of a line.
 fn put_end(writer: &mut Writer)
@@ -17,7 +18,8 @@ fn put_end(writer: &mut Writer)
 
 // Why a sheet was declined.
 pub(crate) fn put_refusal(writer: &mut Writer, fault: SheetRefusal)
-    ensures { Wrote (refused_line (cause_number fault.cause) fault.place (cause_layer fault.cause)) writer.old writer.new }
+    ensures { Wrote (refused_line (cause_number fault.cause) fault.place (cause_layer fault.cause))
+        writer.old writer.new }
 {
     writer.put(b"refused ");
     writer.put_number(u64::from(fault.cause.number()));
@@ -30,7 +32,7 @@ pub(crate) fn put_refusal(writer: &mut Writer, fault: SheetRefusal)
 
 // What a search has come to.
 pub(crate) fn put_outcome(writer: &mut Writer, outcome: Outcome)
-    ensures { Wrote (outcome_line outcome) writer.old writer.new }
+    ensures { Wrote (outcome_line (outcome_name outcome)) writer.old writer.new }
 {
     writer.put(outcome.name().as_bytes());
     put_end(writer);
@@ -56,7 +58,7 @@ fn put_value(writer: &mut Writer, voice: u64, value: u64)
     put_end(writer);
 }
 
-// The values of the voices, a line each. (A loop of its own: a line has the number of its voice too, so that it is not written from the value alone.)
+// The values of the voices, a line each.
 pub(crate) fn put_values(writer: &mut Writer, values: &[u8])
     ensures { Wrote (value_lines 0 values.now) writer.old writer.new }
 {
