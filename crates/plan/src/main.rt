@@ -1,4 +1,4 @@
-// Reads a sheet from standard input and prints its report.
+//! Reads a sheet from standard input and prints its report.
 #![tactic(auto)]
 
 use anyhow::{Context, Result};
@@ -6,6 +6,7 @@ use job::MOST_SHEET;
 use job::standard::planned;
 use std::io::{Read, Write};
 
+// No more is read than the planner looks at, so that memory is bounded.
 fn main(rt: HostRuntime) -> Result<()> {
     let mut sheet = Vec::with_capacity(rt.alloc(), MOST_SHEET).context("no memory for the sheet")?;
     rt.stdin()
