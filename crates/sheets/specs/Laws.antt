@@ -4,7 +4,7 @@ use Rattle.rows.specs.Rows.{RowData, Meaning}
 use Rattle.rows.specs.Laws.{Laws}
 use Rattle.rows.specs.Bytes.{Bytes, encode}
 use Rattle.search.specs.Calls.{Call, Answer, begun}
-use Rattle.search.specs.Calls.Call.{declare, post, wipe}
+use Rattle.search.specs.Calls.Call.{declare, post}
 use Rattle.search.specs.Calls.Answer.{done}
 use Rattle.rows.specs.Placed.{AllAccepted}
 use Rattle.search.specs.Results.{Limited}
@@ -56,7 +56,3 @@ declared_after h (s ∷ voices) = declared_after ((declare s, done) ∷ h) voice
 abbrev pub posted_after : List (Call × Answer) → List RowData → List (Call × Answer)
 posted_after h [] = h
 posted_after h (r ∷ rows) = posted_after ((post (encode r), done) ∷ h) rows
-
--- a Wipe, and then these
-abbrev pub loaded_after : List (Call × Answer) → List ℕ → List RowData → List (Call × Answer)
-loaded_after h voices rows = posted_after (declared_after ((wipe, done) ∷ h) voices) rows
