@@ -11,7 +11,7 @@ use Rattle.search.specs.Search.{Level, Place}
 use Rattle.search.specs.Search.Place.{fresh, going}
 use Rattle.search.specs.Calls.{Table, Call, Answer, Judgement}
 use Rattle.search.specs.Calls.Answer.{done, refused, found, none, stopped, wrote}
-use Rattle.rows.specs.Refusing.Judgement.{passes, declined}
+use Rattle.rows.specs.Reasons.Judgement.{passes, declined}
 use Rattle.search.specs.Histories.{calls_in}
 
 -- ---- lists

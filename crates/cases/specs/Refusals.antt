@@ -8,7 +8,7 @@ use Rattle.search.specs.Search.Place.{fresh, going, found, none}
 use Rattle.search.specs.Calls.{Table, begun, empty, Call, Answer, Judgement, judged}
 use Rattle.search.specs.Calls.Call.{declare, post, solve, read, wipe}
 use Rattle.search.specs.Calls.Answer.{done, refused}
-use Rattle.rows.specs.Refusing.Judgement.{passes, declined}
+use Rattle.rows.specs.Reasons.Judgement.{passes, declined}
 use Rattle.cases.specs.CaseRows.{differing}
 use Rattle.cases.specs.Tables.{large, first_differ, table_with}
 use Rattle.cases.specs.SearchCases.{SearchCase, calls_over, SearchCaseHolds}

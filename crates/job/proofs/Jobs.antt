@@ -5,7 +5,7 @@ use Rattle.std.proofs.lemmas.Bool.{both_ways, cases_lt}
 use Rattle.std.proofs.lemmas.List.{take_all}
 use Rattle.rows.specs.Rows.{RowData, Meaning}
 use Rattle.rows.specs.Laws.{Laws}
-use Rattle.rows.specs.Refusing.{Judgement}
+use Rattle.rows.specs.Reasons.{Judgement}
 use Rattle.stores.specs.Behaviours.{Behaviour}
 use Rattle.search.specs.Limits.{most_budget}
 use Rattle.search.specs.Search.{Place}

@@ -12,4 +12,4 @@ pub mod Shared
 pub mod Placed
 pub mod NewRows
 pub mod Limits
-pub mod Refusing
+pub mod Reasons

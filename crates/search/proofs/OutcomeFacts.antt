@@ -16,7 +16,7 @@ use Rattle.stores.specs.declared.store.Stored.TheVariants.{Kept, Lost}
 use Rattle.search.specs.Search.Place.{fresh, going, found, none}
 use Rattle.search.specs.Search.Node.{dead, solution, hit, branch}
 use Rattle.search.specs.Calls.Call.{declare, post, solve, read, wipe}
-use Rattle.rows.specs.Refusing.Judgement.{passes, declined}
+use Rattle.rows.specs.Reasons.Judgement.{passes, declined}
 use Rattle.search.proofs.HistoryFacts.{none_fits}
 use Rattle.search.proofs.AnyStore.{steps_open}
 

@@ -5,7 +5,7 @@ use Rattle.rows.specs.Rows.{Meaning}
 use Rattle.search.specs.Calls.{Table, Call, Judgement, reasons, judge, judged}
 use Rattle.search.specs.Results.{reason_fits}
 use Rattle.search.specs.Calls.Call.{declare, post, solve, read, wipe}
-use Rattle.rows.specs.Refusing.Judgement.{passes, declined}
+use Rattle.rows.specs.Reasons.Judgement.{passes, declined}
 
 -- the numbers ascend, from above b
 abbrev Above : ℕ → List (ℕ × Bool) → Type 0

@@ -2,9 +2,9 @@
 use Rattle.std.specs.Prelude.{◌≡◌, ℕ, zero, suc, ◌+◌, ◌^◌, ◌<◌, ◌≤◌, Bool, true, false, not, ◌&&◌, ◌||◌, ◌⊎◌, List, [], ◌∷◌, ◌++◌, length, drop, ◌==◌, nat_lt}
 use Rattle.rows.specs.Rows.{RowData, Meaning}
 use Rattle.rows.specs.Bytes.{Bytes, decode}
-pub use Rattle.rows.specs.Refusing.{declined_under, Judgement, judge}
-use Rattle.rows.specs.Refusing.{voice_reasons, row_reasons}
-use Rattle.rows.specs.Refusing.Judgement.{passes, declined}
+pub use Rattle.rows.specs.Reasons.{declined_under, Judgement, judge}
+use Rattle.rows.specs.Reasons.{voice_reasons, row_reasons}
+use Rattle.rows.specs.Reasons.Judgement.{passes, declined}
 use Rattle.stores.specs.Behaviours.{Behaviour}
 use Rattle.search.specs.Limits.{most_budget, most_opened}
 use Rattle.search.specs.Search.{Place, Steps}

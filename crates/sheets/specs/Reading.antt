@@ -4,7 +4,7 @@ use Rattle.std.specs.Prelude.{ℕ, zero, suc, ◌+◌, ◌*◌, cond, List, [], 
 use Rattle.std.specs.Int.{w64, from_le_bytes}
 use Rattle.rows.specs.Rows.{RowData, Meaning}
 use Rattle.rows.specs.Bytes.{count_byte, head_length, lettered, decode}
-use Rattle.rows.specs.Refusing.{Judgement, judge, voice_reasons, row_reasons}
+use Rattle.rows.specs.Reasons.{Judgement, judge, voice_reasons, row_reasons}
 use Rattle.sheets.specs.declared.refusal.Layer.{Layer}
 use Rattle.sheets.specs.declared.refusal.Layer.TheVariants.{Sheet}
 use Rattle.sheets.specs.Causes.{layer_of}

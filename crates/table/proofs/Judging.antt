@@ -9,7 +9,7 @@ use Rattle.search.specs.Limits.{most_voices, most_budget, most_opened}
 use Rattle.search.specs.Search.{Place}
 use Rattle.search.specs.Calls.{Table, judge, judged, over, is_found, result}
 use Rattle.search.specs.Calls.Call.{declare, solve, read}
-use Rattle.rows.specs.Refusing.Judgement.{passes, declined}
+use Rattle.rows.specs.Reasons.Judgement.{passes, declined}
 
 pub judge_here : (n : ℕ) (f : Bool) (rs : List (ℕ × Bool)) → f ≡ true → judge ((n, f) ∷ rs) ≡ declined n
 judge_here n f rs e = ap (λ (b : Bool). judge ((n, b) ∷ rs)) e

@@ -16,7 +16,7 @@ use Rattle.rows.proofs.Readings.{layout_right}
 use Rattle.search.specs.Limits.{most_rows, most_bytes}
 use Rattle.search.specs.Calls.{Table, judge, judged, declined_under}
 use Rattle.search.specs.Calls.Call.{post}
-use Rattle.rows.specs.Refusing.Judgement.{passes, declined}
+use Rattle.rows.specs.Reasons.Judgement.{passes, declined}
 
 -- ---- the refusals
 
