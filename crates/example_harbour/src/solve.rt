@@ -1,11 +1,12 @@
 // The title solved, a few nodes at a time.
 use crate::title;
 use kinds::FourKinds;
+use rows::limits::MOST_VOICES;
 use rows::row::Row;
 use std::io;
 use stores::store::Store;
+use table::Table;
 use table::outcome::Outcome;
-use table::{MOST_VOICES, Table};
 
 // How many nodes each call of `solve` may open, and how often it is called at most.
 const BUDGET: u64 = 4;

@@ -4,10 +4,11 @@
 ghost use Rattle.std.specs.Prelude.{◌≡◌, true, [], take, IfOk};
 ghost use Rattle.kinds.specs.FourKinds.{four_kinds};
 ghost use Rattle.stores.specs.ShelfLaws.{shelf};
-ghost use Rattle.job.specs.Planned.{most_sheet, Planned};
+ghost use Rattle.job.specs.Planned.{Planned};
 
 use anyhow::{Context, Result};
 use job::standard::planned;
+use rows::limits::MOST_SHEET;
 use std::alloc::{AllocError, Global};
 use std::fs;
 
@@ -23,7 +24,7 @@ const NAMES: [&str; 6] = [
 
 // Whether this is what is to be printed of the sheet.
 fn is_report(heap: Global, report: &[u8], sheet: &[u8]) -> Result<bool, AllocError>
-    ensures { IfOk result (λ same. same ≡ true → Planned shelf four_kinds (record { held = []; room = 4096 }) (take most_sheet sheet.now) report.now) }
+    ensures { IfOk result (λ same. same ≡ true → Planned shelf four_kinds (record { held = []; room = 4096 }) (take MOST_SHEET sheet.now) report.now) }
 {
     let text = planned(heap, sheet)?;
     Ok(text.as_slice() == report)

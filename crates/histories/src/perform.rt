@@ -6,11 +6,12 @@ ghost use Rattle.histories.specs.CallViews.{call_of, answer_of, needs_memory};
 
 use crate::call::{Answer, Call};
 use rows::bank::Bank;
+use rows::limits::MOST_VOICES;
 use std::alloc::{AllocError, Global};
 use stores::store::Store;
+use table::Table;
 use table::outcome::Outcome;
 use table::refusal::Refusal;
-use table::{MOST_VOICES, Table};
 
 // The answer of a Declare or a Post.
 fn done_or_refused(res: Result<(), Refusal>) -> Answer

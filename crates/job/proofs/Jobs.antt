@@ -7,7 +7,7 @@ use Rattle.rows.specs.Rows.{RowData, Meaning}
 use Rattle.rows.specs.Laws.{Laws}
 use Rattle.rows.specs.Reasons.{Judgement}
 use Rattle.stores.specs.Behaviours.{Behaviour}
-use Rattle.search.specs.Limits.{most_budget}
+use Rattle.rows.specs.declared.limits.TheConstants.{MOST_BUDGET}
 use Rattle.search.specs.Search.{Place}
 use Rattle.search.specs.Search.Place.{fresh, going, found, none}
 use Rattle.search.specs.Calls.{Table, begun, Answer, judged, over, result, place_answer, Does}
@@ -26,15 +26,16 @@ use Rattle.sheets.specs.Reading.SheetReading.{accepted, refused}
 use Rattle.sheets.specs.Laws.{declared_after, posted_after}
 use Rattle.sheets.specs.Loading.{table_after, LoadAnswer, reading_answer, FillHistory}
 use Rattle.sheets.specs.Loading.LoadAnswer.{loaded, declined}
-use Rattle.job.specs.Promised.{most_sheet, Reports}
+use Rattle.job.specs.Promised.{Reports}
+use Rattle.rows.specs.declared.limits.TheConstants.{MOST_SHEET}
 use Rattle.job.specs.Texts.{outcome_text, searched_text}
 use Rattle.job.specs.Planned.{SheetSolved}
 
 -- the first 20,000 bytes
-pub sheet_front : (sheet : List ℕ) (n : ℕ) → n ≡ min (length sheet) 20000 → take n sheet ≡ take most_sheet sheet
+pub sheet_front : (sheet : List ℕ) (n : ℕ) → n ≡ min (length sheet) 20000 → take n sheet ≡ take MOST_SHEET sheet
 sheet_front sheet n e = go (cases_lt (length sheet) 20000)
   where
-    go : (length sheet < 20000) ⊎ (20000 ≤ length sheet) → take n sheet ≡ take most_sheet sheet
+    go : (length sheet < 20000) ⊎ (20000 ≤ length sheet) → take n sheet ≡ take MOST_SHEET sheet
     go (inl h) = take_all n sheet (omega arith) ∙ sym (take_all 20000 sheet (omega arith))
     go (inr h) = let k : n ≡ 20000 = omega arith in ap (λ (x : ℕ). take x sheet) k
 
@@ -89,16 +90,16 @@ module _ (b : Behaviour) (m : Meaning) (L : Laws m) (g : b.State) (sheet : List 
   -- the Solve of an accepted sheet
   solved : (voices : List ℕ) (rows : List RowData) (t u : Table) (v w : b.State) (r : Result Outcome Refusal) (values : List ℕ)
       → t ≡ begun voices rows → History b m g (posted_after (declared_after [] voices) rows) t v
-      → Does b m t v (solve most_budget) (solve_answer r values) u w
+      → Does b m t v (solve MOST_BUDGET) (solve_answer r values) u w
       → SheetSolved b m g sheet (accepted voices rows) (Ok (result_unwrap_or r Stopped)) u w
   solved voices rows t u v w r values e H D =
       let a = solve_answer r values in
       let calls = posted_after (declared_after [] voices) rows in
-      let j : judged m t (solve most_budget) ≡ Judgement.passes = ap (λ (x : Table). judged m x (solve most_budget)) e in
-      let k = (solve_keeps_budget b m t v most_budget a u w j D).0 in
-      let all : History b m g ((solve most_budget, a) ∷ calls) u w = History.then calls t u v w (solve most_budget) a H tt D in
+      let j : judged m t (solve MOST_BUDGET) ≡ Judgement.passes = ap (λ (x : Table). judged m x (solve MOST_BUDGET)) e in
+      let k = (solve_keeps_budget b m t v MOST_BUDGET a u w j D).0 in
+      let all : History b m g ((solve MOST_BUDGET, a) ∷ calls) u w = History.then calls t u v w (solve MOST_BUDGET) a H tt D in
       let given = tables_given b m g calls t v H in
-      let says_so : SolveMeans m (declared_voices calls) (posted_rows m calls) a = answers_hold b m L g [] calls most_budget a u w all in
+      let says_so : SolveMeans m (declared_voices calls) (posted_rows m calls) a = answers_hold b m L g [] calls MOST_BUDGET a u w all in
       let means : SolveMeans m voices rows (place_answer u.place) = subst (λ (x : Answer). SolveMeans m voices rows x) k.answer
       (subst₂ (λ (vs : List ℕ) (rs : List RowData). SolveMeans m vs rs a) (sym given.0 ∙ ap (λ (x : Table). x.voices) e) (sym given.1 ∙ ap (λ (x : Table). x.rows) e) says_so) in
       let outcome : result_unwrap_or r Stopped ≡ outcome_of u.place = solve_outcome r values ∙ ap answer_outcome k.answer ∙ place_outcome u.place in
@@ -107,14 +108,14 @@ module _ (b : Behaviour) (m : Meaning) (L : Laws m) (g : b.State) (sheet : List 
       λ h. let stops = (k.stopped_exactly.0 (k.answer ∙ place_stops u.place h)).0 in omega (arith, stops, ap (λ (x : Table). x.opened) e) in
       record {
         lost = keys_lost all;
-        history = subst (λ (x : Answer). LeadsTo b m g ((solve most_budget, x) ∷ calls) u w (keys_lost all)) k.answer (all, refl);
-        invariant = invariant_holds b m L g ((solve most_budget, a) ∷ calls) u w all;
+        history = subst (λ (x : Answer). LeadsTo b m g ((solve MOST_BUDGET, x) ∷ calls) u w (keys_lost all)) k.answer (all, refl);
+        invariant = invariant_holds b m L g ((solve MOST_BUDGET, a) ∷ calls) u w all;
         reported = reported;
         promised = subst (Reports m voices rows) (sym reported) (reports_place m voices rows u.place u.opened u.exhausted means spent);
       }
 
   pub sheet_solved : (o : SheetReading) (t u : Table) (v w : b.State) (r : Result Outcome Refusal) (values : List ℕ)
       → loaded ≡ reading_answer o → t ≡ table_after o → FillHistory b m g [] sheet o t v
-      → Does b m t v (solve most_budget) (solve_answer r values) u w → SheetSolved b m g sheet o (Ok (result_unwrap_or r Stopped)) u w
+      → Does b m t v (solve MOST_BUDGET) (solve_answer r values) u w → SheetSolved b m g sheet o (Ok (result_unwrap_or r Stopped)) u w
   sheet_solved (accepted voices rows) t u v w r values e l H D = solved voices rows t u v w r values l H.0 D
   sheet_solved (refused number place layer) t u v w r values e l H D = absurd (subst IsLoaded e tt)

@@ -2,7 +2,7 @@
 use Rattle.std.specs.Prelude.{◌≡◌, ℕ, List, [], ◌∷◌, Result}
 use Rattle.rows.specs.Rows.{Meaning}
 use Rattle.stores.specs.Behaviours.{Behaviour}
-use Rattle.search.specs.Limits.{most_budget}
+use Rattle.rows.specs.declared.limits.TheConstants.{MOST_BUDGET}
 use Rattle.search.specs.Calls.{Table, place_answer}
 use Rattle.search.specs.Calls.Call.{solve}
 use Rattle.search.specs.Histories.{LeadsTo}
@@ -22,7 +22,7 @@ use Rattle.job.specs.Texts.{report_text, sheet_text}
 abbrev pub JobHistory : (b : Behaviour) (m : Meaning) (given : b.State) (sheet : List ℕ)
     → SheetReading → Table → b.State → ℕ → Type 0
 JobHistory b m given sheet (accepted voices rows) t s lost =
-    let calls = (solve most_budget, place_answer t.place) ∷ posted_after (declared_after [] voices) rows in
+    let calls = (solve MOST_BUDGET, place_answer t.place) ∷ posted_after (declared_after [] voices) rows in
     LeadsTo b m given calls t s lost
 JobHistory b m given sheet (refused number place layer) t s lost =
     FillHistory b m given [] sheet (refused number place layer) t s × (lost ≡ 0)

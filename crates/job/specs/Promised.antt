@@ -1,14 +1,11 @@
 -- What the report of a sheet promises, by its voices and rows alone.
 use Rattle.std.specs.Prelude.{◌≡◌, ℕ, List, [], codes}
 use Rattle.rows.specs.Rows.{RowData, Meaning}
+use Rattle.rows.specs.declared.limits.TheConstants.{MOST_BUDGET}
 use Rattle.rows.specs.Placed.{Least, Lawless}
 use Rattle.sheets.specs.Reading.{SheetReading}
 use Rattle.sheets.specs.Reading.SheetReading.{accepted, refused}
 use Rattle.job.specs.Texts.{refused_line, outcome_text}
-
--- how many bytes of a sheet are read at most
-abbrev pub most_sheet : ℕ
-most_sheet = 20_000
 
 -- The report of these voices and rows: `found` with the least lawful placing; `none`, where there is no lawful placing; or `stopped`, which says
 -- nothing of the placings, and only once 1,000,000 nodes were opened.
@@ -17,7 +14,7 @@ pub data Reports (m : Meaning) (voices : List ℕ) (rows : List RowData) : List 
       → Reports m voices rows (outcome_text (codes "found") opened exhausted p)
   none : (opened exhausted : ℕ) → Lawless m voices rows
       → Reports m voices rows (outcome_text (codes "none") opened exhausted [])
-  stopped : (exhausted : ℕ) → Reports m voices rows (outcome_text (codes "stopped") 1_000_000 exhausted [])
+  stopped : (exhausted : ℕ) → Reports m voices rows (outcome_text (codes "stopped") MOST_BUDGET exhausted [])
 
 -- an accepted sheet is reported so; a declined one by its first fault
 abbrev pub Promised : Meaning → SheetReading → List ℕ → Type 0

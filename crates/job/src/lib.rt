@@ -4,11 +4,12 @@
 ghost use Rattle.std.specs.Prelude.{take, IfOk};
 ghost use Rattle.table.specs.Shown.{model, store_in};
 ghost use Rattle.sheets.specs.Reading.{read_sheet};
-ghost use Rattle.job.specs.Promised.{most_sheet, Promised};
+ghost use Rattle.job.specs.Promised.{Promised};
 ghost use Rattle.job.specs.Planned.{SolvesLoaded, Planned};
 
 use crate::report::{MOST_REPORT, written_report};
 use rows::bank::Bank;
+use rows::limits::{MOST_BUDGET, MOST_SHEET};
 use sheets::load::load_new;
 use sheets::refusal::SheetRefusal;
 use std::alloc::{AllocError, Global};
@@ -20,12 +21,6 @@ mod lines;
 pub mod report;
 pub mod standard;
 
-/// How many bytes of a sheet are read at most; what follows them is as if it were not there.
-pub const MOST_SHEET: usize = 20_000;
-
-/// How many nodes the search opens at most: the largest budget of a Solve.
-const BUDGET: u64 = 1_000_000;
-
 // Solves a table that a Load has just left with this answer, unless it refused the sheet. (Solve
 // refuses neither this budget nor a search that has not begun.)
 fn solve_loaded<B: Bank, S: Store>(
@@ -36,7 +31,7 @@ fn solve_loaded<B: Bank, S: Store>(
         (model table.old) (store_in table.old) result (model table.new) (store_in table.new) }
 {
     answer?;
-    Ok(table.solve(BUDGET).unwrap_or(Outcome::Stopped))
+    Ok(table.solve(MOST_BUDGET).unwrap_or(Outcome::Stopped))
 }
 
 /// Returns the report of the sheet, of which the first 20,000 bytes count: what a search for the
@@ -50,11 +45,11 @@ pub fn plan<B: Bank, S: Store + Drop>(
     sheet: &[u8],
 ) -> Result<Vec<u8>, AllocError>
     ensures promise { IfOk result (λ text.
-        Promised B.Bank.meaning (read_sheet B.Bank.meaning (take most_sheet sheet.now))
+        Promised B.Bank.meaning (read_sheet B.Bank.meaning (take MOST_SHEET sheet.now))
         text.items) }
     ensures history { IfOk result (λ text.
         Planned S.Store.behaviour B.Bank.meaning (S.Store.state store)
-        (take most_sheet sheet.now) text.items) }
+        (take MOST_SHEET sheet.now) text.items) }
 {
     let length = sheet.len().min(MOST_SHEET);
     let (mut table, answer) = load_new::<B, S>(heap, store, &sheet[..length])?;

@@ -8,12 +8,13 @@ ghost use Rattle.job.specs.Texts.{searched_text, report_text, sheet_text};
 
 use crate::lines::{put_count, put_outcome, put_refusal, put_values};
 use rows::bank::Bank;
+use rows::limits::MOST_VOICES;
 use rows::writer::Writer;
 use sheets::refusal::SheetRefusal;
 use stores::store::Store;
+use table::Table;
 use table::outcome::Outcome;
 use table::refusal::Refusal;
-use table::{MOST_VOICES, Table};
 
 /// How many bytes a report has at most: `stopped`, two counts of 13 and 14 digits, and 80 lines of
 /// a voice and its value.

@@ -3,11 +3,12 @@ ghost use Rattle.std.specs.Prelude.{[], take, IfOk};
 ghost use Rattle.kinds.specs.FourKinds.{four_kinds};
 ghost use Rattle.stores.specs.ShelfLaws.{shelf};
 ghost use Rattle.sheets.specs.Reading.{read_sheet};
-ghost use Rattle.job.specs.Promised.{most_sheet, Promised};
+ghost use Rattle.job.specs.Promised.{Promised};
 ghost use Rattle.job.specs.Planned.{Planned};
 
 use crate::plan;
 use kinds::FourKinds;
+use rows::limits::MOST_SHEET;
 use std::alloc::{AllocError, Global};
 use stores::shelf::Shelf;
 
@@ -20,10 +21,10 @@ const SHELF_WORDS: usize = 4096;
 /// There is no memory for the shelf, the table or the report.
 pub fn planned(heap: Global, sheet: &[u8]) -> Result<Vec<u8>, AllocError>
     ensures promise { IfOk result (λ text.
-        Promised four_kinds (read_sheet four_kinds (take most_sheet sheet.now)) text.items) }
+        Promised four_kinds (read_sheet four_kinds (take MOST_SHEET sheet.now)) text.items) }
     ensures history { IfOk result (λ text.
         Planned shelf four_kinds (record { held = []; room = 4096 })
-        (take most_sheet sheet.now) text.items) }
+        (take MOST_SHEET sheet.now) text.items) }
 {
     let mut words = vec![in heap; 0u64; SHELF_WORDS]?;
     plan::<FourKinds, Shelf>(heap, Shelf::new(&mut words), sheet)

@@ -10,10 +10,11 @@ ghost use Rattle.kinds.specs.Sums.{bound as bound_of, low, high, placed, term, t
 ghost use Rattle.kinds.specs.SumsLaws.{linear_lawful};
 
 use rows::kind::Kind;
+use rows::limits::MOST_MEMBERS;
 use rows::member::Member;
 use rows::narrowing::{are_declared, is_shaped, judge, keep_only, set_of};
 use rows::refusal::KindRefusal;
-use rows::row::{MOST_MEMBERS, Row, RowError};
+use rows::row::{Row, RowError};
 use rows::trace::Trace;
 use sets::{ValueSet, greatest_value, is_fixed, least_value};
 use std::alloc::Global;
@@ -131,7 +132,7 @@ fn keep_within(member: Member, sets: &mut [ValueSet], slack: i64) -> bool
 // terms are in an array beside the members, since a turn takes no memory, and have half the bits,
 // so that less is cleared.
 fn lowest_terms(row: &Row, sets: &[ValueSet]) -> ([i32; MOST_MEMBERS], i64, i64)
-    ensures long { length result.0 ≡ 32 }
+    ensures long { length result.0 ≡ MOST_MEMBERS }
     ensures terms { take (length (row_of row.now).members) result.0 ≡
         map (low sets.now) (row_of row.now).members }
     ensures small { (k : ℕ) → Near (32768 * 64) (slice_index_or result.0 k (pos 0)) }

@@ -2,8 +2,8 @@
 #![tactic(auto)]
 
 use anyhow::{Context, Result};
-use job::MOST_SHEET;
 use job::standard::planned;
+use rows::limits::MOST_SHEET;
 use std::io::{Read, Write};
 
 // No more is read than the planner looks at, so that memory is bounded.

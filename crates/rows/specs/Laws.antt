@@ -3,6 +3,7 @@ use Rattle.std.specs.Prelude.{◌≡◌, ℕ, ◌+◌, ◌≤◌, Bool, true, fa
 use Rattle.sets.specs.Sets.{fixed}
 use Rattle.sets.specs.Placings.{changed, some_empty, all_fixed, values, Proper, Placing, Within, Narrower}
 use Rattle.rows.specs.Rows.{RowData, KindMeaning, Meaning, alone, count}
+use Rattle.rows.specs.declared.limits.TheConstants.{MOST_MEMBERS, LONGEST_BODY}
 
 -- a letter that no kind may have: a sheet's V and Z, and a member's M
 abbrev pub barred : ℕ → Bool
@@ -12,7 +13,7 @@ barred l = l == 0x56 || (l == 0x5A || l == 0x4D)
 pub record Lettered (m : Meaning) (l : ℕ) : Type 0 where
   pub free : barred l ≡ false
   pub some_body : 1 ≤ m.body_length l
-  pub short_body : m.body_length l ≤ 16
+  pub short_body : m.body_length l ≤ LONGEST_BODY
 
 -- the shape of a row: a letter that the bank knows, its body length, a count from 1 to 32 and that many members
 pub record Shaped (m : Meaning) (r : RowData) : Type 0 where
@@ -20,7 +21,7 @@ pub record Shaped (m : Meaning) (r : RowData) : Type 0 where
   pub long_body : length r.body ≡ m.body_length r.letter
   pub counted : length r.members ≡ count r
   pub some_members : 1 ≤ count r
-  pub few_members : count r ≤ 32
+  pub few_members : count r ≤ MOST_MEMBERS
 
 -- it is a row by its shape, and the bank accepts it with n voices; what a bank returns for data of another shape is left to it
 pub record Accepted (m : Meaning) (r : RowData) (n : ℕ) : Type 0 where

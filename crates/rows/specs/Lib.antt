@@ -11,5 +11,4 @@ pub mod WrittenRows
 pub mod Shared
 pub mod Placed
 pub mod NewRows
-pub mod Limits
 pub mod Reasons

@@ -4,6 +4,7 @@ use Rattle.rows.specs.declared.refusal.RowRefusal.{RowRefusal}
 use Rattle.rows.specs.declared.refusal.RowRefusal.TheVariants.{UnknownLetter, BadCount, WrongLength, UnmarkedMember, ByKind}
 use Rattle.rows.specs.Rows.{RowData, Meaning, Verdict}
 use Rattle.rows.specs.Bytes.{head_length, lettered, counted, right_length, marked, decode, members_in}
+use Rattle.rows.specs.declared.limits.TheConstants.{MOST_MEMBERS, LONGEST_BODY}
 
 -- what comes next where the test holds, the refusal where it does not
 abbrev pub checked : {A E : Type 0} → Bool → E → Result A E → Result A E
@@ -36,8 +37,8 @@ row_after m bs before = cond (is_ok (layout_fault m bs)) (decode m bs) before
 
 -- a row with these bytes after its body, as far as a body goes
 abbrev pub with_bytes : RowData → List ℕ → RowData
-with_bytes r bs = record { letter = r.letter; body = take 16 (r.body ++ bs); members = r.members }
+with_bytes r bs = record { letter = r.letter; body = take LONGEST_BODY (r.body ++ bs); members = r.members }
 
 -- a row with the members in these bytes after its own, as many as a row can have
 abbrev pub with_members_in : RowData → List ℕ → RowData
-with_members_in r bs = record { letter = r.letter; body = r.body; members = take 32 (r.members ++ members_in bs) }
+with_members_in r bs = record { letter = r.letter; body = r.body; members = take MOST_MEMBERS (r.members ++ members_in bs) }

@@ -1,6 +1,6 @@
 -- Why a voice or a row is declined beside the voices and rows that are there: by the smallest number that fits.
 use Rattle.std.specs.Prelude.{ℕ, ◌+◌, Bool, true, false, not, ◌||◌, List, [], ◌∷◌, length, drop, Ok, Err, ◌==◌, nat_le, nat_lt}
-use Rattle.rows.specs.Limits.{most_voices, most_rows, most_bytes}
+use Rattle.rows.specs.declared.limits.TheConstants.{MOST_VOICES, MOST_ROWS, MOST_BYTES}
 use Rattle.rows.specs.Refusals.{kind_number}
 use Rattle.rows.specs.Rows.{RowData, Meaning, Verdict}
 use Rattle.rows.specs.Bytes.{head_length, lettered, counted, right_length, marked, decode, total_bytes}
@@ -14,7 +14,7 @@ declined_under n (Err f) = kind_number f == n
 
 -- of one voice more, with this opening set
 abbrev pub voice_reasons : List ℕ → ℕ → List (ℕ × Bool)
-voice_reasons voices set = (10, (set == 0)) ∷ (11, nat_le most_voices (length voices)) ∷ []
+voice_reasons voices set = (10, (set == 0)) ∷ (11, nat_le MOST_VOICES (length voices)) ∷ []
 
 -- of one row more, with these bytes
 abbrev pub row_reasons : Meaning → List ℕ → List RowData → List ℕ → List (ℕ × Bool)
@@ -25,7 +25,7 @@ row_reasons m voices rows bs =
     ∷ (7, not (marked (drop (head_length m bs) bs)))
     ∷ (8, declined_under 8 (m.accepts (decode m bs) (length voices)))
     ∷ (9, declined_under 9 (m.accepts (decode m bs) (length voices)))
-    ∷ (12, nat_le most_rows (length rows) || nat_lt most_bytes (total_bytes rows + length bs))
+    ∷ (12, nat_le MOST_ROWS (length rows) || nat_lt MOST_BYTES (total_bytes rows + length bs))
     ∷ []
 
 -- ---- judgements

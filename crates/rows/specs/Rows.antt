@@ -3,6 +3,7 @@ use Rattle.std.specs.Prelude.{ℕ, Bool, cond, ◌&&◌, ◌||◌, List, Option,
 use Rattle.rows.specs.declared.refusal.KindRefusal.{KindRefusal}
 use Rattle.rows.specs.declared.member.Member.{Member}
 use Rattle.rows.specs.declared.trace.Trace.{Trace}
+use Rattle.rows.specs.declared.limits.TheConstants.{MOST_MEMBERS}
 
 -- what a row says: its letter, its body and its members
 pub record RowData : Type 0 where
@@ -19,7 +20,7 @@ count r = byte r 0
 
 -- a row has 1 to 32 members
 abbrev pub allowed_count : ℕ → Bool
-allowed_count n = nat_le 1 n && nat_le n 32
+allowed_count n = nat_le 1 n && nat_le n MOST_MEMBERS
 
 -- whether a row is accepted, or why it is refused
 abbrev pub Verdict : Type 0

@@ -5,6 +5,7 @@ use Rattle.std.specs.List.{list_all, list_any}
 use Rattle.rows.specs.declared.refusal.KindRefusal.TheVariants.{Undeclared, RuleBroken}
 use Rattle.rows.specs.declared.member.Member.{Member}
 use Rattle.rows.specs.Rows.{RowData, Verdict, count}
+use Rattle.rows.specs.declared.limits.TheConstants.{MOST_MEMBERS}
 
 -- ---- cuts
 
@@ -32,7 +33,7 @@ distinct (x ∷ xs) = not (list_any (nat_eq x) xs) && distinct xs
 -- this letter, so many body bytes, a count from 1 to 32 and that many members
 abbrev pub shaped : ℕ → ℕ → RowData → Bool
 shaped letter long r =
-    (r.letter == letter) && (length r.body == long && (nat_le 1 (count r) && (nat_le (count r) 32 && length r.members == count r)))
+    (r.letter == letter) && (length r.body == long && (nat_le 1 (count r) && (nat_le (count r) MOST_MEMBERS && length r.members == count r)))
 
 -- a row of another shape is refused; a voice that is not declared goes before a rule that is broken
 abbrev pub verdict : Bool → Bool → Bool → Verdict

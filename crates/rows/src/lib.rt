@@ -5,6 +5,7 @@
 pub mod bank;
 pub mod bytes;
 pub mod kind;
+pub mod limits;
 pub mod member;
 pub mod narrowing;
 pub mod reading;

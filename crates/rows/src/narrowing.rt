@@ -6,9 +6,10 @@ ghost use Rattle.std.specs.List.{list_all};
 ghost use Rattle.rows.specs.Views.{row_of};
 ghost use Rattle.rows.specs.Shared.{cut, shaped, verdict};
 
+use crate::limits::MOST_MEMBERS;
 use crate::member::Member;
 use crate::refusal::KindRefusal;
-use crate::row::{MOST_MEMBERS, Row};
+use crate::row::Row;
 use sets::ValueSet;
 
 /// A voice's set; the empty set where there is no such voice.

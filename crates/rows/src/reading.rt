@@ -6,9 +6,10 @@ ghost use Rattle.rows.specs.Reading.{checked, layout, layout_fault, row_verdict,
 ghost use Rattle.rows.specs.Views.{row_of};
 
 use crate::bank::Bank;
+use crate::limits::MOST_MEMBERS;
 use crate::member::{MEMBER_MARK, Member};
 use crate::refusal::RowRefusal;
-use crate::row::{MOST_MEMBERS, Row};
+use crate::row::Row;
 
 // The length of the body that the letter asks for.
 fn body_length<B: Bank>(bytes: &[u8]) -> Result<usize, RowRefusal>

@@ -1,16 +1,12 @@
 // A row as a typed value: its kind's letter, its body and its members.
 ghost use Rattle.std.specs.Prelude.{◌≡◌, ◌≤◌, [], ◌∷◌, ◌++◌, length, Some, vec_len, vec_capacity, IfOk, if◌then◌else◌, nat_lt, slice_index};
+ghost use Rattle.rows.specs.declared.limits.TheConstants.{LONGEST_BODY, MOST_MEMBERS};
 
+use crate::limits::{LONGEST_BODY, MOST_MEMBERS};
 use crate::member::Member;
 use std::alloc::{AllocError, Global};
 use std::error::Error;
 use std::fmt;
-
-/// The most members of a row.
-pub const MOST_MEMBERS: usize = 32;
-
-/// The most bytes of a body, the count of members among them.
-pub const LONGEST_BODY: usize = 16;
 
 /// A row: its kind's letter, its body, whose first byte is the count of members, and its members.
 /// Its memory is reserved for the longest row, so that filling it never fails.
@@ -19,10 +15,10 @@ pub struct Row {
     letter: u8,
     body: Vec<u8>,
     members: Vec<Member>,
-    ghost short: { vec_len body ≤ 16 },
-    ghost few: { vec_len members ≤ 32 },
-    ghost body_room: { 16 ≤ vec_capacity body },
-    ghost member_room: { 32 ≤ vec_capacity members },
+    ghost short: { vec_len body ≤ LONGEST_BODY },
+    ghost few: { vec_len members ≤ MOST_MEMBERS },
+    ghost body_room: { LONGEST_BODY ≤ vec_capacity body },
+    ghost member_room: { MOST_MEMBERS ≤ vec_capacity members },
 }
 
 /// Why a constructor makes no row.
@@ -120,7 +116,7 @@ impl Row {
     /// Appends a byte to the body. Returns false, and changes nothing, where the body is as long as
     /// it can be.
     pub fn push_byte(&mut self, byte: u8) -> bool
-        ensures value { result ≡ nat_lt (length (row_of self.old).body) 16 }
+        ensures value { result ≡ nat_lt (length (row_of self.old).body) LONGEST_BODY }
         ensures after { row_of self.new ≡
             (if result then with_byte (row_of self.old) byte else row_of self.old) }
     {
@@ -143,7 +139,7 @@ impl Row {
     /// Appends a member. Returns false, and changes nothing, where there are as many as a row can
     /// have.
     pub fn push_member(&mut self, member: Member) -> bool
-        ensures value { result ≡ nat_lt (length (row_of self.old).members) 32 }
+        ensures value { result ≡ nat_lt (length (row_of self.old).members) MOST_MEMBERS }
         ensures after { row_of self.new ≡
             (if result then with_member (row_of self.old) member else row_of self.old) }
     {

@@ -8,7 +8,7 @@ use Rattle.rows.specs.Bytes.{decode, encode, total_bytes, LaidOut}
 use Rattle.rows.proofs.Layouts.{bytes_both_ways}
 use Rattle.stores.specs.Stores.{View}
 use Rattle.search.proofs.AnyStore.{any}
-use Rattle.search.specs.Limits.{most_voices, most_rows, most_bytes, most_opened}
+use Rattle.rows.specs.declared.limits.TheConstants.{MOST_VOICES, MOST_ROWS, MOST_BYTES, MOST_OPENED}
 use Rattle.search.specs.Calls.{Table, Call, Answer, Formed, Judgement, reasons, judged, empty, over, place_answer, Does}
 use Rattle.search.specs.Calls.Call.{declare, post, solve}
 use Rattle.search.specs.Histories.{History}
@@ -28,22 +28,22 @@ module _ (m : Meaning) where
   none_yet : Limited m empty
   none_yet = record { voices = omega arith; sets = λ i l. absurd (omega arith); rows = omega arith; bytes = omega arith; laid_out = tt; opened = omega arith }
 
-  solve_limit : (t : Table) (v : View) (b : ℕ) (u : Table) (w : View) → judged m t (solve b) ≡ Judgement.passes → Does any m t v (solve b) (place_answer u.place) u w → t.opened ≤ most_opened → u.opened ≤ most_opened
+  solve_limit : (t : Table) (v : View) (b : ℕ) (u : Table) (w : View) → judged m t (solve b) ≡ Judgement.passes → Does any m t v (solve b) (place_answer u.place) u w → t.opened ≤ MOST_OPENED → u.opened ≤ MOST_OPENED
   solve_limit t v b u w j d l =
       let k = solve_keeps_budget m t v b (place_answer u.place) u w j d in
       let f = (none_fits (reasons m t (solve b)) j).1.0 in
       elim (cases_Bool (over t.place)) [
         | inl o ↦ omega (arith, l, ap (λ (x : Table). x.opened) (k.repeats o))
-        | inr o ↦ elim (and_cases (not (over t.place)) (ltb most_opened (t.opened + b)) f) [
+        | inr o ↦ elim (and_cases (not (over t.place)) (ltb MOST_OPENED (t.opened + b)) f) [
           | inl e ↦ absurd (both_ways (over t.place) o (not-false (over t.place) e))
-          | inr e ↦ omega (arith, ltb-false most_opened (t.opened + b) e, k.at_most)
+          | inr e ↦ omega (arith, ltb-false MOST_OPENED (t.opened + b) e, k.at_most)
         ]
       ]
 
   limits_after : {t : Table} {v : View} {c : Call} {a : Answer} {u : Table} {w : View} → Does any m t v c a u w → Formed c → Limited m t → Limited m u
   limits_after (Does.declines c n j) o f = f
   limits_after {t} (Does.declares s w j e) o f = record {
-    voices = omega (arith, length_push t.voices s, leb-false most_voices (length t.voices) (none_fits (reasons m t (declare s)) j).1.0);
+    voices = omega (arith, length_push t.voices s, leb-false MOST_VOICES (length t.voices) (none_fits (reasons m t (declare s)) j).1.0);
     sets = proper_push t.voices s (declared_set m t s j) o f.sets;
     rows = f.rows;
     bytes = f.bytes;
@@ -52,12 +52,12 @@ module _ (m : Meaning) where
   }
   limits_after {t} (Does.posts bs w j e) o f =
       let y = (bytes_both_ways m).1 bs o (layout m t bs j) in
-      let g = or_parts (leb most_rows (length t.rows)) (ltb most_bytes (total_bytes t.rows + length bs)) (none_fits (reasons m t (post bs)) j).1.1.1.1.1.1.0 in
+      let g = or_parts (leb MOST_ROWS (length t.rows)) (ltb MOST_BYTES (total_bytes t.rows + length bs)) (none_fits (reasons m t (post bs)) j).1.1.1.1.1.1.0 in
       record {
         voices = f.voices;
         sets = f.sets;
-        rows = omega (arith, length_push t.rows (decode m bs), leb-false most_rows (length t.rows) g.0);
-        bytes = omega (arith, total_push t.rows (decode m bs), ap length y.1, ltb-false most_bytes (total_bytes t.rows + length bs) g.1);
+        rows = omega (arith, length_push t.rows (decode m bs), leb-false MOST_ROWS (length t.rows) g.0);
+        bytes = omega (arith, total_push t.rows (decode m bs), ap length y.1, ltb-false MOST_BYTES (total_bytes t.rows + length bs) g.1);
         laid_out = laid_out_push m t.rows (decode m bs) f.laid_out y.0;
         opened = omega arith;
       }
@@ -65,10 +65,10 @@ module _ (m : Meaning) where
   limits_after {t} {v} (Does.solves b u w lost j S) o f =
       let k = goes_kept S.goes in
       record {
-        voices = subst (λ (x : List ℕ). length x ≤ most_voices) (sym k.voices) f.voices;
+        voices = subst (λ (x : List ℕ). length x ≤ MOST_VOICES) (sym k.voices) f.voices;
         sets = subst Proper (sym k.voices) f.sets;
-        rows = subst (λ (x : List RowData). length x ≤ most_rows) (sym k.rows) f.rows;
-        bytes = subst (λ (x : List RowData). total_bytes x ≤ most_bytes) (sym k.rows) f.bytes;
+        rows = subst (λ (x : List RowData). length x ≤ MOST_ROWS) (sym k.rows) f.rows;
+        bytes = subst (λ (x : List RowData). total_bytes x ≤ MOST_BYTES) (sym k.rows) f.bytes;
         laid_out = subst (AllLaidOut m) (sym k.rows) f.laid_out;
         opened = solve_limit t v b u w j (Does.solves b u w lost j S) f.opened;
       }

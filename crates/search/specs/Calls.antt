@@ -6,7 +6,7 @@ pub use Rattle.rows.specs.Reasons.{declined_under, Judgement, judge}
 use Rattle.rows.specs.Reasons.{voice_reasons, row_reasons}
 use Rattle.rows.specs.Reasons.Judgement.{passes, declined}
 use Rattle.stores.specs.Behaviours.{Behaviour}
-use Rattle.search.specs.Limits.{most_budget, most_opened}
+use Rattle.rows.specs.declared.limits.TheConstants.{MOST_BUDGET, MOST_OPENED}
 use Rattle.search.specs.Search.{Place, Steps}
 
 -- ---- tables
@@ -82,8 +82,8 @@ abbrev pub reasons : Meaning → Table → Call → List (ℕ × Bool)
 reasons m t (declare s) = voice_reasons t.voices s
 reasons m t (post bs) = row_reasons m t.voices t.rows bs
 reasons m t (solve b) =
-    (13, (b == 0) || nat_lt most_budget b)
-    ∷ (14, not (over t.place) && nat_lt most_opened (t.opened + b))
+    (13, (b == 0) || nat_lt MOST_BUDGET b)
+    ∷ (14, not (over t.place) && nat_lt MOST_OPENED (t.opened + b))
     ∷ []
 reasons m t (read buffer) = (15, not (is_found t.place)) ∷ (16, nat_lt (length buffer) (length (result t.place))) ∷ []
 reasons m t wipe = []

@@ -1,4 +1,3 @@
-pub mod Limits
 pub mod Propagation
 pub mod Search
 pub mod Calls

@@ -8,8 +8,8 @@ use Rattle.rows.specs.Views.{rows_of}
 use Rattle.rows.specs.declared.row.Row.{Row}
 use Rattle.rows.specs.Bytes.{Bytes, LaidOut, total_bytes}
 use Rattle.stores.specs.Stores.{View, distinct_keys}
-use Rattle.rows.specs.Limits.{most_voices, most_rows, most_bytes}
-use Rattle.search.specs.Limits.{most_opened}
+use Rattle.rows.specs.declared.limits.TheConstants.{MOST_VOICES, MOST_ROWS, MOST_BYTES}
+use Rattle.rows.specs.declared.limits.TheConstants.{MOST_OPENED}
 use Rattle.search.specs.Propagation.{round, rounds, size}
 use Rattle.search.specs.Search.{Place}
 use Rattle.rows.specs.Placed.{AllHold, Least, Lawless}
@@ -72,12 +72,12 @@ AllLaidOut m (r ∷ rows) = LaidOut m r × AllLaidOut m rows
 
 -- a table within its limits
 pub record Limited (m : Meaning) (t : Table) : Type 0 where
-  pub voices : length t.voices ≤ most_voices
+  pub voices : length t.voices ≤ MOST_VOICES
   pub sets : Proper t.voices
-  pub rows : length t.rows ≤ most_rows
-  pub bytes : total_bytes t.rows ≤ most_bytes
+  pub rows : length t.rows ≤ MOST_ROWS
+  pub bytes : total_bytes t.rows ≤ MOST_BYTES
   pub laid_out : AllLaidOut m t.rows
-  pub opened : t.opened ≤ most_opened
+  pub opened : t.opened ≤ MOST_OPENED
 
 -- ---- answers
 

@@ -9,7 +9,7 @@ use Rattle.rows.specs.Laws.{Laws, Accepted}
 use Rattle.rows.specs.Bytes.{count_byte, head_length, lettered, counted, right_length, marked, Layout, LaidOut, decode, encode, member_bytes, total_bytes}
 use Rattle.rows.proofs.Layouts.{bytes_both_ways}
 use Rattle.rows.proofs.RowBytes.{row_same}
-use Rattle.search.specs.Limits.{most_rows, most_bytes}
+use Rattle.rows.specs.declared.limits.TheConstants.{MOST_ROWS, MOST_BYTES}
 use Rattle.search.specs.Calls.{begun, Judgement, judge, judged, declined_under}
 use Rattle.search.specs.Calls.Call.{post}
 use Rattle.rows.specs.Placed.{AllAccepted}
@@ -53,13 +53,13 @@ module _ (m : Meaning) (L : Laws m) where
   row_passes voices rows r rest H =
       let w = (bytes_both_ways m).0 r (laid_out_at m rows r rest H.limited.laid_out) in
       let y = w.1 in
-      let few : length rows < most_rows = omega (arith, H.limited.rows, length-append rows (r ∷ rest)) in
-      let short : total_bytes rows + length (encode r) ≤ most_bytes = omega (arith, H.limited.bytes, total_append rows (r ∷ rest)) in
+      let few : length rows < MOST_ROWS = omega (arith, H.limited.rows, length-append rows (r ∷ rest)) in
+      let short : total_bytes rows + length (encode r) ≤ MOST_BYTES = omega (arith, H.limited.bytes, total_append rows (r ∷ rest)) in
       all_pass (lettered m (encode r)) (counted (encode r)) (right_length m (encode r)) (marked (drop (head_length m (encode r)) (encode r))) (m.accepts (decode m (encode r)) (length voices))
-      (leb most_rows (length rows) || ltb most_bytes (total_bytes rows + length (encode r)))
+      (leb MOST_ROWS (length rows) || ltb MOST_BYTES (total_bytes rows + length (encode r)))
       y.letters y.counts y.long y.marks
       (ap (λ (x : RowData). m.accepts x (length voices)) w.2 ∙ (accepted_at m rows r rest (length voices) H.all_accepted).yes)
-      (or_from (leb most_rows (length rows)) (ltb most_bytes (total_bytes rows + length (encode r))) (lt-leb most_rows (length rows) few) (le-ltb most_bytes (total_bytes rows + length (encode r)) short))
+      (or_from (leb MOST_ROWS (length rows)) (ltb MOST_BYTES (total_bytes rows + length (encode r))) (lt-leb MOST_ROWS (length rows) few) (le-ltb MOST_BYTES (total_bytes rows + length (encode r)) short))
 
   -- the row at the front of its bytes and others
   row_front : (r : RowData) (others : List ℕ) → Layout m (encode r) → front_row m (encode r ++ others) ≡ encode r

@@ -5,7 +5,7 @@ use Rattle.std.proofs.lemmas.Bool.{or_left, or_right, or_from, and_left, and_rig
 use Rattle.sets.specs.Sets.{least}
 use Rattle.sets.specs.Placings.{values}
 use Rattle.rows.specs.Rows.{Meaning}
-use Rattle.search.specs.Limits.{most_voices, most_budget, most_opened}
+use Rattle.rows.specs.declared.limits.TheConstants.{MOST_VOICES, MOST_BUDGET, MOST_OPENED}
 use Rattle.search.specs.Search.{Place}
 use Rattle.search.specs.Calls.{Table, judge, judged, over, is_found, result}
 use Rattle.search.specs.Calls.Call.{declare, solve, read}
@@ -20,45 +20,45 @@ judge_next n f rs e = ap (λ (b : Bool). judge ((n, b) ∷ rs)) e
 -- ---- Declare
 
 pub empty_set : (m : Meaning) (t : Table) (s : ℕ) → s ≡ 0 → judged m t (declare s) ≡ declined 10
-empty_set m t s e = judge_here 10 (eqb s 0) ((11, leb most_voices (length t.voices)) ∷ []) (eq-eqb s 0 e)
+empty_set m t s e = judge_here 10 (eqb s 0) ((11, leb MOST_VOICES (length t.voices)) ∷ []) (eq-eqb s 0 e)
 
-pub voices_full : (m : Meaning) (t : Table) (s : ℕ) → (s ≡ 0 → ⊥) → most_voices ≤ length t.voices → judged m t (declare s) ≡ declined 11
+pub voices_full : (m : Meaning) (t : Table) (s : ℕ) → (s ≡ 0 → ⊥) → MOST_VOICES ≤ length t.voices → judged m t (declare s) ≡ declined 11
 voices_full m t s e h =
-    judge_next 10 (eqb s 0) ((11, leb most_voices (length t.voices)) ∷ []) (ne_eqb s 0 e)
-    ∙ judge_here 11 (leb most_voices (length t.voices)) [] (le-leb most_voices (length t.voices) h)
+    judge_next 10 (eqb s 0) ((11, leb MOST_VOICES (length t.voices)) ∷ []) (ne_eqb s 0 e)
+    ∙ judge_here 11 (leb MOST_VOICES (length t.voices)) [] (le-leb MOST_VOICES (length t.voices) h)
 
-pub voice_fits : (m : Meaning) (t : Table) (s : ℕ) → (s ≡ 0 → ⊥) → length t.voices < most_voices → judged m t (declare s) ≡ passes
+pub voice_fits : (m : Meaning) (t : Table) (s : ℕ) → (s ≡ 0 → ⊥) → length t.voices < MOST_VOICES → judged m t (declare s) ≡ passes
 voice_fits m t s e h =
-    judge_next 10 (eqb s 0) ((11, leb most_voices (length t.voices)) ∷ []) (ne_eqb s 0 e)
-    ∙ judge_next 11 (leb most_voices (length t.voices)) [] (lt-leb most_voices (length t.voices) h)
+    judge_next 10 (eqb s 0) ((11, leb MOST_VOICES (length t.voices)) ∷ []) (ne_eqb s 0 e)
+    ∙ judge_next 11 (leb MOST_VOICES (length t.voices)) [] (lt-leb MOST_VOICES (length t.voices) h)
 
 -- ---- Solve
 
 spent : Table → ℕ → Bool
-spent t b = not (over t.place) && ltb most_opened (t.opened + b)
+spent t b = not (over t.place) && ltb MOST_OPENED (t.opened + b)
 
-pub budget_range : (m : Meaning) (t : Table) (b : ℕ) → (b ≡ 0) ⊎ ((b ≡ 0 → ⊥) × (most_budget < b)) → judged m t (solve b) ≡ declined 13
+pub budget_range : (m : Meaning) (t : Table) (b : ℕ) → (b ≡ 0) ⊎ ((b ≡ 0 → ⊥) × (MOST_BUDGET < b)) → judged m t (solve b) ≡ declined 13
 unfolding spent
-budget_range m t b (inl e) = judge_here 13 (eqb b 0 || ltb most_budget b) ((14, spent t b) ∷ []) (or_left (eqb b 0) (ltb most_budget b) (eq-eqb b 0 e))
-budget_range m t b (inr h) = judge_here 13 (eqb b 0 || ltb most_budget b) ((14, spent t b) ∷ []) (or_right (eqb b 0) (ltb most_budget b) (lt-ltb most_budget b h.1))
+budget_range m t b (inl e) = judge_here 13 (eqb b 0 || ltb MOST_BUDGET b) ((14, spent t b) ∷ []) (or_left (eqb b 0) (ltb MOST_BUDGET b) (eq-eqb b 0 e))
+budget_range m t b (inr h) = judge_here 13 (eqb b 0 || ltb MOST_BUDGET b) ((14, spent t b) ∷ []) (or_right (eqb b 0) (ltb MOST_BUDGET b) (lt-ltb MOST_BUDGET b h.1))
 
-in_range : (m : Meaning) (t : Table) (b : ℕ) → (b ≡ 0 → ⊥) → b ≤ most_budget → judged m t (solve b) ≡ judge ((14, spent t b) ∷ [])
+in_range : (m : Meaning) (t : Table) (b : ℕ) → (b ≡ 0 → ⊥) → b ≤ MOST_BUDGET → judged m t (solve b) ≡ judge ((14, spent t b) ∷ [])
 unfolding spent
-in_range m t b n h = judge_next 13 (eqb b 0 || ltb most_budget b) ((14, spent t b) ∷ []) (or_from (eqb b 0) (ltb most_budget b) (ne_eqb b 0 n) (le-ltb most_budget b h))
+in_range m t b n h = judge_next 13 (eqb b 0 || ltb MOST_BUDGET b) ((14, spent t b) ∷ []) (or_from (eqb b 0) (ltb MOST_BUDGET b) (ne_eqb b 0 n) (le-ltb MOST_BUDGET b h))
 
-pub over_passes : (m : Meaning) (t : Table) (b : ℕ) → (b ≡ 0 → ⊥) → b ≤ most_budget → over t.place ≡ true → judged m t (solve b) ≡ passes
+pub over_passes : (m : Meaning) (t : Table) (b : ℕ) → (b ≡ 0 → ⊥) → b ≤ MOST_BUDGET → over t.place ≡ true → judged m t (solve b) ≡ passes
 unfolding spent
-over_passes m t b n h e = in_range m t b n h ∙ judge_next 14 (spent t b) [] (and_left (not (over t.place)) (ltb most_opened (t.opened + b)) (not_from_true (over t.place) e))
+over_passes m t b n h e = in_range m t b n h ∙ judge_next 14 (spent t b) [] (and_left (not (over t.place)) (ltb MOST_OPENED (t.opened + b)) (not_from_true (over t.place) e))
 
-pub nodes_spent : (m : Meaning) (t : Table) (b : ℕ) → (b ≡ 0 → ⊥) → b ≤ most_budget → over t.place ≡ false → most_opened < t.opened + b → judged m t (solve b) ≡ declined 14
+pub nodes_spent : (m : Meaning) (t : Table) (b : ℕ) → (b ≡ 0 → ⊥) → b ≤ MOST_BUDGET → over t.place ≡ false → MOST_OPENED < t.opened + b → judged m t (solve b) ≡ declined 14
 unfolding spent
 nodes_spent m t b n h e k =
     in_range m t b n h
-    ∙ judge_here 14 (spent t b) [] (and_from (not (over t.place)) (ltb most_opened (t.opened + b)) (not_from_false (over t.place) e) (lt-ltb most_opened (t.opened + b) k))
+    ∙ judge_here 14 (spent t b) [] (and_from (not (over t.place)) (ltb MOST_OPENED (t.opened + b)) (not_from_false (over t.place) e) (lt-ltb MOST_OPENED (t.opened + b) k))
 
-pub budget_fits : (m : Meaning) (t : Table) (b : ℕ) → (b ≡ 0 → ⊥) → b ≤ most_budget → t.opened + b ≤ most_opened → judged m t (solve b) ≡ passes
+pub budget_fits : (m : Meaning) (t : Table) (b : ℕ) → (b ≡ 0 → ⊥) → b ≤ MOST_BUDGET → t.opened + b ≤ MOST_OPENED → judged m t (solve b) ≡ passes
 unfolding spent
-budget_fits m t b n h k = in_range m t b n h ∙ judge_next 14 (spent t b) [] (and_right (not (over t.place)) (ltb most_opened (t.opened + b)) (le-ltb most_opened (t.opened + b) k))
+budget_fits m t b n h k = in_range m t b n h ∙ judge_next 14 (spent t b) [] (and_right (not (over t.place)) (ltb MOST_OPENED (t.opened + b)) (le-ltb MOST_OPENED (t.opened + b) k))
 
 -- ---- Read
 

@@ -13,7 +13,7 @@ use Rattle.rows.specs.Bytes.{Bytes, head_length, lettered, counted, right_length
 use Rattle.rows.specs.Reading.{checked, of_kind, row_verdict, row_after}
 use Rattle.rows.proofs.Layouts.{bytes_both_ways}
 use Rattle.rows.proofs.Readings.{layout_right}
-use Rattle.search.specs.Limits.{most_rows, most_bytes}
+use Rattle.rows.specs.declared.limits.TheConstants.{MOST_ROWS, MOST_BYTES}
 use Rattle.search.specs.Calls.{Table, judge, judged, declined_under}
 use Rattle.search.specs.Calls.Call.{post}
 use Rattle.rows.specs.Reasons.Judgement.{passes, declined}
@@ -74,7 +74,7 @@ all_yes true true true true (Err f) y e = never (ByKind f) y (sym e)
 
 -- no row more has room
 abbrev pub full_for : List RowData → ℕ → Bool
-full_for rows bytes = leb most_rows (length rows) || ltb most_bytes (total_bytes rows + bytes)
+full_for rows bytes = leb MOST_ROWS (length rows) || ltb MOST_BYTES (total_bytes rows + bytes)
 
 module _ (m : Meaning) (t : Table) (bs : List ℕ) where
   pub bytes_decline : (f : RowRefusal) → fault f ≡ row_verdict m bs (length t.voices) → judged m t (post bs) ≡ declined (row_number f)
@@ -101,24 +101,24 @@ verdict_yes m bs n y e = all_yes (lettered m bs) (counted bs) (right_length m bs
 
 -- ---- the room
 
-pub no_room : (rows : List RowData) (bytes : ℕ) → most_rows ≤ length rows → false ≡ not (leb most_rows (length rows) || ltb most_bytes (total_bytes rows + bytes))
-no_room rows bytes h = sym (not_from_true (full_for rows bytes) (or_left (leb most_rows (length rows)) (ltb most_bytes (total_bytes rows + bytes)) (le-leb most_rows (length rows) h)))
+pub no_room : (rows : List RowData) (bytes : ℕ) → MOST_ROWS ≤ length rows → false ≡ not (leb MOST_ROWS (length rows) || ltb MOST_BYTES (total_bytes rows + bytes))
+no_room rows bytes h = sym (not_from_true (full_for rows bytes) (or_left (leb MOST_ROWS (length rows)) (ltb MOST_BYTES (total_bytes rows + bytes)) (le-leb MOST_ROWS (length rows) h)))
 
-by_bytes : (bytes sum : ℕ) (b : Bool) → sum ≤ most_bytes → leb bytes (most_bytes - sum) ≡ b → ltb most_bytes (sum + bytes) ≡ not b
-by_bytes bytes sum true h e = le-ltb most_bytes (sum + bytes) (omega (arith, leb-true bytes (most_bytes - sum) e))
-by_bytes bytes sum false h e = lt-ltb most_bytes (sum + bytes) (omega (arith, leb-false bytes (most_bytes - sum) e))
+by_bytes : (bytes sum : ℕ) (b : Bool) → sum ≤ MOST_BYTES → leb bytes (MOST_BYTES - sum) ≡ b → ltb MOST_BYTES (sum + bytes) ≡ not b
+by_bytes bytes sum true h e = le-ltb MOST_BYTES (sum + bytes) (omega (arith, leb-true bytes (MOST_BYTES - sum) e))
+by_bytes bytes sum false h e = lt-ltb MOST_BYTES (sum + bytes) (omega (arith, leb-false bytes (MOST_BYTES - sum) e))
 
 not_not : (b : Bool) → not (not b) ≡ b
 not_not true = refl
 not_not false = refl
 
-pub room_by : (rows : List RowData) (bytes sum : ℕ) → length rows < most_rows → total_bytes rows ≡ sum → sum ≤ most_bytes
-    → leb bytes (most_bytes - sum) ≡ not (leb most_rows (length rows) || ltb most_bytes (total_bytes rows + bytes))
+pub room_by : (rows : List RowData) (bytes sum : ℕ) → length rows < MOST_ROWS → total_bytes rows ≡ sum → sum ≤ MOST_BYTES
+    → leb bytes (MOST_BYTES - sum) ≡ not (leb MOST_ROWS (length rows) || ltb MOST_BYTES (total_bytes rows + bytes))
 room_by rows bytes sum h e k =
-    let b = leb bytes (most_bytes - sum) in
+    let b = leb bytes (MOST_BYTES - sum) in
     sym (
-    ap (λ (x : Bool). not (x || ltb most_bytes (total_bytes rows + bytes))) (lt-leb most_rows (length rows) h)
-    ∙ ap (λ (n : ℕ). not (ltb most_bytes (n + bytes))) e
+    ap (λ (x : Bool). not (x || ltb MOST_BYTES (total_bytes rows + bytes))) (lt-leb MOST_ROWS (length rows) h)
+    ∙ ap (λ (n : ℕ). not (ltb MOST_BYTES (n + bytes))) e
     ∙ ap not (by_bytes bytes sum b k refl)
     ∙ not_not b
     )
@@ -129,10 +129,10 @@ full_by rows rows' bytes e h = sym (ap (λ (x : List RowData). full_for x bytes)
 pub open_by : (rows rows' : List RowData) (bytes : ℕ) → rows' ≡ rows → true ≡ not (full_for rows' bytes) → full_for rows bytes ≡ false
 open_by rows rows' bytes e h = sym (ap (λ (x : List RowData). full_for x bytes) e) ∙ sym (not_not (full_for rows' bytes)) ∙ ap not (sym h)
 
-pub room_left : (rows : List RowData) (bytes : ℕ) → full_for rows bytes ≡ false → (length rows < most_rows) × (total_bytes rows + bytes ≤ most_bytes)
+pub room_left : (rows : List RowData) (bytes : ℕ) → full_for rows bytes ≡ false → (length rows < MOST_ROWS) × (total_bytes rows + bytes ≤ MOST_BYTES)
 room_left rows bytes h =
-    let p = or_parts (leb most_rows (length rows)) (ltb most_bytes (total_bytes rows + bytes)) h in
-    (leb-false most_rows (length rows) p.0, ltb-false most_bytes (total_bytes rows + bytes) p.1)
+    let p = or_parts (leb MOST_ROWS (length rows)) (ltb MOST_BYTES (total_bytes rows + bytes)) h in
+    (leb-false MOST_ROWS (length rows) p.0, ltb-false MOST_BYTES (total_bytes rows + bytes) p.1)
 
 -- ---- the rows afterwards
 

@@ -10,5 +10,4 @@ pub mod outcome;
 pub mod refusal;
 mod table;
 
-pub use crate::engine::state::MOST_VOICES;
-pub use crate::table::{MOST_BYTES, MOST_ROWS, Table};
+pub use crate::table::Table;

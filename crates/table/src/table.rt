@@ -3,36 +3,22 @@ ghost use Rattle.std.specs.Prelude.{◌≡◌, ◌+◌, ◌<◌, ◌≤◌, not,
 ghost use Rattle.rows.specs.Bytes.{total_bytes};
 ghost use Rattle.rows.specs.Views.{rows_of};
 ghost use Rattle.rows.specs.Placed.{Ready, ready_once};
-ghost use Rattle.search.specs.Limits.{most_voices, most_rows, most_bytes};
 ghost use Rattle.search.specs.Calls.{Call, Answer, over};
 ghost use Rattle.table.specs.Searches.{voice_count, outcome_of};
+ghost use Rattle.rows.specs.declared.limits.TheConstants.{MOST_BYTES, MOST_ROWS, MOST_VOICES};
 
 use crate::engine::state::Search;
 use crate::engine::values::write_values;
 use crate::outcome::Outcome;
 use crate::refusal::Refusal;
 use rows::bank::Bank;
+use rows::limits::{MOST_BUDGET, MOST_BYTES, MOST_OPENED, MOST_ROWS, MOST_VOICES};
 use rows::reading::accept_bytes;
 use rows::row::Row;
 use sets::ValueSet;
 use std::alloc::{AllocError, Global};
 use std::marker::PhantomData;
 use stores::store::Store;
-
-// the most voices, which are a search's
-pub use crate::engine::state::MOST_VOICES;
-
-/// The most rows.
-pub const MOST_ROWS: usize = 120;
-
-/// The most bytes that the rows have together.
-pub const MOST_BYTES: usize = 8192;
-
-// The largest budget of a call.
-const MOST_BUDGET: u64 = 1_000_000;
-
-// How many nodes a search opens at most.
-const MOST_OPENED: u64 = 1_000_000_000_000;
 
 /// Voices, each with its opening set of values; rows over the bank `B`, each a rule that some voices obey; and a search
 /// for the least placing that obeys them all, which keeps the keys of failed nodes in the store `S`.
@@ -52,12 +38,12 @@ pub struct Table<B: Bank, S: Store> {
     // how many bytes the table's rows have together
     bytes: usize,
     search: Search,
-    ghost few: { vec_len voices ≤ most_voices },
-    ghost room: { most_voices ≤ vec_capacity voices },
+    ghost few: { vec_len voices ≤ MOST_VOICES },
+    ghost room: { MOST_VOICES ≤ vec_capacity voices },
     ghost searched: { voice_count search ≡ vec_len voices },
-    ghost within: { posted ≤ most_rows },
-    ghost spare: { most_rows < vec_len rows },
-    ghost short: { bytes ≤ most_bytes },
+    ghost within: { posted ≤ MOST_ROWS },
+    ghost spare: { MOST_ROWS < vec_len rows },
+    ghost short: { bytes ≤ MOST_BYTES },
     ghost weighed: { total_bytes (rows_of (take posted rows.items)) ≡ bytes },
     // the bank accepts each row with as many voices as there are, and no opening set is empty
     ghost ready: { Ready B.Bank.meaning (rows_of (take posted rows.items))
@@ -127,8 +113,8 @@ impl<B: Bank, S: Store> Table<B, S> {
 
     // Whether there is room for one row more, of so many bytes.
     fn has_room(&self, bytes: usize) -> bool
-        ensures { result ≡ not (nat_le most_rows (length (rows_in self.now))
-            || nat_lt most_bytes (total_bytes (rows_in self.now) + bytes)) }
+        ensures { result ≡ not (nat_le MOST_ROWS (length (rows_in self.now))
+            || nat_lt MOST_BYTES (total_bytes (rows_in self.now) + bytes)) }
     {
         if self.posted >= MOST_ROWS {
             return false;
@@ -253,7 +239,7 @@ impl<B: Bank, S: Store> Table<B, S> {
     /// The opening sets of the voices, in order.
     pub fn voices(&self) -> &[ValueSet]
         ensures value { result.now ≡ (model self.now).voices }
-        ensures bound { length result.now ≤ most_voices }
+        ensures bound { length result.now ≤ MOST_VOICES }
     {
         &self.voices
     }
@@ -268,7 +254,7 @@ impl<B: Bank, S: Store> Table<B, S> {
     /// How many bytes the rows have together.
     pub fn row_bytes(&self) -> usize
         ensures value { result ≡ total_bytes (rows_in self.now) }
-        ensures bound { result ≤ most_bytes }
+        ensures bound { result ≤ MOST_BYTES }
     {
         self.bytes
     }

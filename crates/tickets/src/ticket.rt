@@ -4,8 +4,8 @@ ghost use Rattle.std.specs.Prelude.{◌≡◌, ◌<◌, length};
 
 use crate::refusal::TicketRefusal;
 use rows::bank::Bank;
+use rows::limits::MOST_MEMBERS;
 use rows::member::MEMBER_MARK;
-use rows::row::MOST_MEMBERS;
 use rows::writer::Writer;
 use stores::store::Store;
 use table::Table;

@@ -1,20 +1,18 @@
 // Keys written, looked up in a store, and given to it.
 ghost use Rattle.std.specs.Prelude.{◌≡◌, ◌+◌, ◌*◌, ◌≤◌, length, vec_len};
 ghost use Rattle.rows.specs.Views.{rows_of};
-ghost use Rattle.search.specs.Limits.{most_voices, most_rows};
 ghost use Rattle.stores.specs.Keys.{key};
 ghost use Rattle.stores.specs.Stores.{member};
 ghost use Rattle.table.specs.Levels.{KeyGiven};
+ghost use Rattle.rows.specs.declared.limits.TheConstants.{MOST_ROWS, MOST_VOICES};
 
 use rows::bank::Bank;
+use rows::limits::{LONGEST_KEY, MOST_ROWS, MOST_VOICES};
 use rows::row::Row;
 use sets::ValueSet;
 use std::alloc::{AllocError, Global};
 use stores::key::write_key;
 use stores::store::Store;
-
-// The words of the longest key, of 80 voices and 120 rows.
-const KEY_WORDS: usize = 320;
 
 // Room for a key, reserved when it is made. It stays filled, since a key is written into a slice.
 //
@@ -24,13 +22,13 @@ const KEY_WORDS: usize = 320;
 #[derive(Drop)]
 pub(crate) struct KeyBuffer {
     words: Vec<u64>,
-    ghost room: { most_voices + 2 * most_rows ≤ vec_len words },
+    ghost room: { MOST_VOICES + 2 * MOST_ROWS ≤ vec_len words },
 }
 
 impl KeyBuffer {
     // Room for the longest key.
     pub(crate) fn new(heap: Global) -> Result<KeyBuffer, AllocError> {
-        let words = Vec::from_elem(heap, 0u64, KEY_WORDS)?;
+        let words = Vec::from_elem(heap, 0u64, LONGEST_KEY)?;
         Ok(KeyBuffer { words })
     }
 
@@ -41,8 +39,8 @@ impl KeyBuffer {
         sets: &[ValueSet],
         store: &S,
     ) -> bool
-        requires sets { length sets.now ≤ most_voices }
-        requires rows { length rows.now ≤ most_rows }
+        requires sets { length sets.now ≤ MOST_VOICES }
+        requires rows { length rows.now ≤ MOST_ROWS }
         ensures { result ≡ member (key B.Bank.meaning (rows_of rows.now) sets.now)
             (S.Store.behaviour.view (S.Store.state store.now)).held }
     {
@@ -57,8 +55,8 @@ impl KeyBuffer {
 
     // Gives the key of these sets to the store. Where that turns keys of this length away, the key is not written.
     pub(crate) fn give<B: Bank, S: Store>(&mut self, rows: &[Row], sets: &[ValueSet], store: &mut S)
-        requires sets { length sets.now ≤ most_voices }
-        requires rows { length rows.now ≤ most_rows }
+        requires sets { length sets.now ≤ MOST_VOICES }
+        requires rows { length rows.now ≤ MOST_ROWS }
         ensures { KeyGiven S.Store.behaviour (S.Store.state store.old)
             (key B.Bank.meaning (rows_of rows.now) sets.now) (S.Store.state store.new) }
     {

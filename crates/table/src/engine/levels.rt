@@ -2,14 +2,14 @@
 ghost use Rattle.std.specs.Prelude.{◌≡◌, ◌+◌, ◌*◌, ◌<◌, ◌≤◌, false, ◌∷◌, length, slice_index, vec_items, vec_len, vec_capacity, IfOk};
 ghost use Rattle.sets.specs.Placings.{Proper};
 ghost use Rattle.rows.specs.Views.{rows_of};
-ghost use Rattle.search.specs.Limits.{most_voices, most_rows};
 ghost use Rattle.search.specs.Search.{below};
 ghost use Rattle.table.specs.Levels.{Voiced, Backed, is_none, is_spent, newest_sets, without_newest, next_sets, next_levels};
+ghost use Rattle.rows.specs.declared.limits.TheConstants.{MOST_VOICES};
 
 use crate::engine::keys::KeyBuffer;
 use crate::engine::level::LevelRecord;
-use crate::engine::state::MOST_VOICES;
 use rows::bank::Bank;
+use rows::limits::{MOST_ROWS, MOST_VOICES};
 use rows::row::Row;
 use sets::{ValueSet, single};
 use std::alloc::{AllocError, Global};
@@ -28,9 +28,9 @@ pub(crate) struct Levels {
     trail: Vec<ValueSet>,
     // the levels without their sets
     records: Vec<LevelRecord>,
-    ghost narrow: { width ≤ most_voices },
-    ghost broad: { most_voices * most_voices ≤ vec_capacity trail },
-    ghost room: { most_voices ≤ vec_capacity records },
+    ghost narrow: { width ≤ MOST_VOICES },
+    ghost broad: { MOST_VOICES * MOST_VOICES ≤ vec_capacity trail },
+    ghost room: { MOST_VOICES ≤ vec_capacity records },
     ghost whole: { vec_len trail ≡ vec_len records * width },
     ghost deep: { vec_len records ≤ width },
     ghost voiced: { Voiced width (vec_items records) },
@@ -56,7 +56,7 @@ impl Levels {
 
     // Drops all levels; those to come have this many sets.
     pub(crate) fn restart(&mut self, width: usize)
-        requires { width ≤ most_voices }
+        requires { width ≤ MOST_VOICES }
         ensures { Cleared width self.new }
     {
         self.trail.clear();
@@ -166,7 +166,7 @@ impl Levels {
         keys: &mut KeyBuffer,
         store: &mut S,
     ) -> usize
-        requires rows { length rows.now ≤ most_rows }
+        requires rows { length rows.now ≤ MOST_ROWS }
         ensures width { self.new.width ≡ self.old.width }
         ensures few { result ≤ self.old.width }
         ensures unspent { is_spent (levels_in self.new) ≡ false }

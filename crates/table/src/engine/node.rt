@@ -2,7 +2,6 @@
 ghost use Rattle.std.specs.Prelude.{◌≡◌, ◌<◌, ◌≤◌, length, not, position, IfSome};
 ghost use Rattle.sets.specs.Sets.{fixed};
 ghost use Rattle.rows.specs.Views.{rows_of};
-ghost use Rattle.search.specs.Limits.{most_voices, most_rows};
 ghost use Rattle.rows.specs.Placed.{Ready};
 ghost use Rattle.search.specs.Propagation.{propagated};
 ghost use Rattle.search.specs.Search.{node};
@@ -10,6 +9,7 @@ ghost use Rattle.table.specs.Nodes.{node_of, Branches, FirstOpen};
 
 use crate::engine::keys::KeyBuffer;
 use rows::bank::Bank;
+use rows::limits::{MOST_ROWS, MOST_VOICES};
 use rows::row::Row;
 use search::propagation::propagate;
 use sets::{ValueSet, is_fixed};
@@ -53,8 +53,8 @@ pub(crate) fn classify<B: Bank, S: Store>(
     keys: &mut KeyBuffer,
     store: &S,
 ) -> Node
-    requires few { length rows.now ≤ most_rows }
-    requires narrow { length sets.old ≤ most_voices }
+    requires few { length rows.now ≤ MOST_ROWS }
+    requires narrow { length sets.old ≤ MOST_VOICES }
     requires inside { from ≤ length sets.old }
     requires ready { Ready B.Bank.meaning (rows_of rows.now) sets.old }
     ensures after { sets.new ≡ propagated B.Bank.meaning (rows_of rows.now) sets.old }

@@ -2,10 +2,10 @@
 ghost use Rattle.std.specs.Prelude.{◌≡◌, ◌+◌, ◌*◌, ◌<◌, ◌≤◌, false, length, vec_len, vec_capacity, IfOk};
 ghost use Rattle.rows.specs.Views.{rows_of};
 ghost use Rattle.rows.specs.Placed.{Ready};
-ghost use Rattle.search.specs.Limits.{most_voices, most_rows, most_opened};
 ghost use Rattle.search.specs.Calls.{over};
 ghost use Rattle.table.specs.Levels.{is_spent};
 ghost use Rattle.table.specs.Stacks.{levels_in};
+ghost use Rattle.rows.specs.declared.limits.TheConstants.{MOST_OPENED, MOST_VOICES};
 
 use crate::engine::keys::KeyBuffer;
 use crate::engine::level::End;
@@ -13,13 +13,11 @@ use crate::engine::levels::Levels;
 use crate::engine::node::{Node, classify};
 use crate::outcome::Outcome;
 use rows::bank::Bank;
+use rows::limits::{MOST_OPENED, MOST_ROWS, MOST_VOICES};
 use rows::row::Row;
 use sets::ValueSet;
 use std::alloc::{AllocError, Global};
 use stores::store::Store;
-
-// The most voices that a search has.
-pub const MOST_VOICES: usize = 80;
 
 // What a search has come to, and the memory that it works in, all of it reserved when it is made.
 #[derive(Drop)]
@@ -33,10 +31,10 @@ pub(crate) struct Search {
     // nodes opened, and nodes exhausted
     opened: u64,
     exhausted: u64,
-    ghost bounded: { opened ≤ most_opened },
-    ghost spent: { exhausted ≤ most_voices * opened },
-    ghost few: { vec_len sets ≤ most_voices },
-    ghost room: { most_voices ≤ vec_capacity sets },
+    ghost bounded: { opened ≤ MOST_OPENED },
+    ghost spent: { exhausted ≤ MOST_VOICES * opened },
+    ghost few: { vec_len sets ≤ MOST_VOICES },
+    ghost room: { MOST_VOICES ≤ vec_capacity sets },
     ghost fitted: { levels.width ≡ vec_len sets },
     // the newest level has a value left to try
     ghost unspent: { is_spent (levels_in levels) ≡ false },
@@ -65,7 +63,7 @@ impl Search {
 
     // The search begins again, for so many voices.
     pub(crate) fn restart(&mut self, voices: usize)
-        requires { voices ≤ most_voices }
+        requires { voices ≤ MOST_VOICES }
         ensures { Begun voices self.new }
     {
         // there is room, so that this allocates nothing and cannot fail
@@ -122,8 +120,8 @@ impl Search {
     fn step<B: Bank, S: Store>(&mut self, rows: &[Row], voices: &[ValueSet], store: &mut S)
         requires open { over (place self.old) ≡ false }
         requires voices { length voices.now ≡ voice_count self.old }
-        requires rows { length rows.now ≤ most_rows }
-        requires few { self.old.opened < most_opened }
+        requires rows { length rows.now ≤ MOST_ROWS }
+        requires few { self.old.opened < MOST_OPENED }
         requires ready { Ready B.Bank.meaning (rows_of rows.now) voices.now }
         ensures goes { Ran S.Store.behaviour B.Bank.meaning 1
             (table_of voices.now (rows_of rows.now) self.old) (S.Store.state store.old)
@@ -157,8 +155,8 @@ impl Search {
         store: &mut S,
     )
         requires voices { length voices.now ≡ voice_count self.old }
-        requires rows { length rows.now ≤ most_rows }
-        requires few { self.old.opened + budget ≤ most_opened }
+        requires rows { length rows.now ≤ MOST_ROWS }
+        requires few { self.old.opened + budget ≤ MOST_OPENED }
         requires ready { Ready B.Bank.meaning (rows_of rows.now) voices.now }
         ensures runs { Runs S.Store.behaviour B.Bank.meaning budget
             (table_of voices.now (rows_of rows.now) self.old) (S.Store.state store.old)
