@@ -122,8 +122,8 @@ fn wipe_refused<B: Bank, S: Store>(table: &mut Table<B, S>, res: &Result<(), She
     }
 }
 
-// Gives an empty table, whose search has not begun, the voices and rows of the sheet. A refused sheet
-// leaves no voices and no rows.
+// Gives an empty table, whose search has not begun, the voices and rows of the sheet. A refused
+// sheet leaves no voices and no rows.
 fn fill<B: Bank, S: Store>(table: &mut Table<B, S>, bytes: &[u8]) -> Result<(), SheetRefusal>
     requires { model table.old ≡ empty }
     ensures value { load_answer result ≡ reading_answer (read_sheet B.Bank.meaning bytes.now) }

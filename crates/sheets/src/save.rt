@@ -15,7 +15,8 @@ use table::refusal::Refusal;
 pub fn save<B: Bank, S: Store>(table: &Table<B, S>, out: &mut [u8]) -> Result<usize, Refusal>
     ensures value { result ≡ written_answer (sheet_of table.now) out.old }
     ensures after { out.new ≡ buffer_after (sheet_of table.now) out.old }
-    ensures again { LoadsAgain S.Store.behaviour B.Bank.meaning (model table.now) (store_in table.now) }
+    ensures again { LoadsAgain S.Store.behaviour B.Bank.meaning
+        (model table.now) (store_in table.now) }
 {
     let length = 9 * table.voices().len() + table.row_bytes() + 1;
     if out.len() < length {
