@@ -9,7 +9,8 @@ use Rattle.rows.specs.declared.member.Member.{Member}
 use Rattle.rows.specs.Rows.{RowData}
 use Rattle.search.specs.Search.{Level, Place}
 use Rattle.search.specs.Search.Place.{fresh, going}
-use Rattle.search.specs.Calls.{Table, Call, Answer, Judgement}
+use Rattle.rows.specs.Reasons.{Judgement}
+use Rattle.search.specs.Calls.{Table, Call, Answer}
 use Rattle.search.specs.Calls.Answer.{done, refused, found, none, stopped, wrote}
 use Rattle.rows.specs.Reasons.Judgement.{passes, declined}
 use Rattle.search.specs.Histories.{calls_in}

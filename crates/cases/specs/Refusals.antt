@@ -5,7 +5,8 @@ use Rattle.rows.specs.Rows.{RowData}
 use Rattle.rows.specs.Bytes.{decode, total_bytes}
 use Rattle.search.specs.Search.{Place}
 use Rattle.search.specs.Search.Place.{fresh, going, found, none}
-use Rattle.search.specs.Calls.{Table, begun, empty, Call, Answer, Judgement, judged}
+use Rattle.rows.specs.Reasons.{Judgement}
+use Rattle.search.specs.Calls.{Table, begun, empty, Call, Answer, judged}
 use Rattle.search.specs.Calls.Call.{declare, post, solve, read, wipe}
 use Rattle.search.specs.Calls.Answer.{done, refused}
 use Rattle.rows.specs.Reasons.Judgement.{passes, declined}

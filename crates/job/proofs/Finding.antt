@@ -9,7 +9,8 @@ use Rattle.rows.specs.Rows.{Meaning}
 use Rattle.stores.specs.Behaviours.{Behaviour}
 use Rattle.search.specs.Search.{Place, Level}
 use Rattle.search.specs.Search.Place.{fresh, going, found, none}
-use Rattle.search.specs.Calls.{Table, Answer, Does, Judgement, judge, is_found, result}
+use Rattle.rows.specs.Reasons.{Judgement, judge}
+use Rattle.search.specs.Calls.{Table, Answer, Does, is_found, result}
 use Rattle.search.specs.Calls.Call.{read}
 use Rattle.search.specs.Calls.Answer.{wrote, refused}
 use Rattle.table.specs.declared.engine.level.End.{End}

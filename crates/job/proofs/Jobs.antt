@@ -7,7 +7,7 @@ use Rattle.rows.specs.Rows.{RowData, Meaning}
 use Rattle.rows.specs.Laws.{Laws}
 use Rattle.rows.specs.Reasons.{Judgement}
 use Rattle.stores.specs.Behaviours.{Behaviour}
-use Rattle.rows.specs.declared.limits.TheConstants.{MOST_BUDGET}
+use Rattle.rows.specs.declared.limits.TheConstants.{MOST_BUDGET, MOST_SHEET}
 use Rattle.search.specs.Search.{Place}
 use Rattle.search.specs.Search.Place.{fresh, going, found, none}
 use Rattle.search.specs.Calls.{Table, begun, Answer, judged, over, result, place_answer, Does}
@@ -27,7 +27,6 @@ use Rattle.sheets.specs.Laws.{declared_after, posted_after}
 use Rattle.sheets.specs.Loading.{table_after, LoadAnswer, reading_answer, FillHistory}
 use Rattle.sheets.specs.Loading.LoadAnswer.{loaded, declined}
 use Rattle.job.specs.Promised.{Reports}
-use Rattle.rows.specs.declared.limits.TheConstants.{MOST_SHEET}
 use Rattle.job.specs.Texts.{outcome_text, searched_text}
 use Rattle.job.specs.Planned.{SheetSolved}
 

@@ -9,7 +9,8 @@ use Rattle.rows.specs.Bytes.{Bytes, decode}
 use Rattle.stores.specs.Stores.{View}
 use Rattle.search.proofs.AnyStore.{any}
 use Rattle.search.specs.Search.{Place, Steps}
-use Rattle.search.specs.Calls.{Table, Call, Answer, Formed, Judgement, reasons, judged, over, place_answer, result, OpensNodes, Solved, Does}
+use Rattle.rows.specs.Reasons.{Judgement}
+use Rattle.search.specs.Calls.{Table, Call, Answer, Formed, reasons, judged, over, place_answer, result, OpensNodes, Solved, Does}
 use Rattle.search.specs.Histories.{History, keys_lost, declared_voices, posted_rows}
 use Rattle.rows.specs.Placed.{Least, Lawless, SameLeast}
 use Rattle.search.specs.Results.{Invariant, Reads, SolveMeans, finished, Budgeted}

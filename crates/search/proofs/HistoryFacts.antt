@@ -11,7 +11,8 @@ use Rattle.rows.proofs.Layouts.{bytes_both_ways}
 use Rattle.stores.specs.Stores.{member, View, distinct_keys}
 use Rattle.search.proofs.AnyStore.{any}
 use Rattle.search.specs.Search.{Place}
-use Rattle.search.specs.Calls.{Table, Call, Answer, Formed, Judgement, reasons, judge, judged, declined_under, OpensNodes, Does, lost_after, empty}
+use Rattle.rows.specs.Reasons.{Judgement, judge, declined_under}
+use Rattle.search.specs.Calls.{Table, Call, Answer, Formed, reasons, judged, OpensNodes, Does, lost_after, empty}
 use Rattle.search.specs.Histories.{History, keys_lost}
 use Rattle.search.specs.Results.{Invariant}
 use Rattle.rows.specs.Placed.{AllAccepted}

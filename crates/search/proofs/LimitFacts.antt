@@ -9,7 +9,8 @@ use Rattle.rows.proofs.Layouts.{bytes_both_ways}
 use Rattle.stores.specs.Stores.{View}
 use Rattle.search.proofs.AnyStore.{any}
 use Rattle.rows.specs.declared.limits.TheConstants.{MOST_VOICES, MOST_ROWS, MOST_BYTES, MOST_OPENED}
-use Rattle.search.specs.Calls.{Table, Call, Answer, Formed, Judgement, reasons, judged, empty, over, place_answer, Does}
+use Rattle.rows.specs.Reasons.{Judgement}
+use Rattle.search.specs.Calls.{Table, Call, Answer, Formed, reasons, judged, empty, over, place_answer, Does}
 use Rattle.search.specs.Calls.Call.{declare, post, solve}
 use Rattle.search.specs.Histories.{History}
 use Rattle.search.specs.Results.{AllLaidOut, Limited}

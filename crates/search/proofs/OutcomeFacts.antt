@@ -8,7 +8,8 @@ use Rattle.stores.specs.Behaviours.{Behaviour, Decided}
 use Rattle.stores.specs.declared.store.Stored.{Stored}
 use Rattle.search.specs.Search.{Level, Place, Node, node, below, child, taken, BacksUp, Opens, Steps}
 use Rattle.search.specs.Propagation.{propagated}
-use Rattle.search.specs.Calls.{Table, begun, empty, Call, Answer, Judgement, judged, reasons, over, is_found, place_answer, result, node_more, OpensNodes, Solved, Does, lost_after}
+use Rattle.rows.specs.Reasons.{Judgement}
+use Rattle.search.specs.Calls.{Table, begun, empty, Call, Answer, judged, reasons, over, is_found, place_answer, result, node_more, OpensNodes, Solved, Does, lost_after}
 use Rattle.search.specs.Histories.{History, keys_lost, calls_in}
 use Rattle.search.specs.CallOutcomes.{CallOutcome}
 use Rattle.search.specs.Theorems.{OneOutcome, OneHistory}

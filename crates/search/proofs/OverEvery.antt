@@ -2,7 +2,8 @@
 use Rattle.std.proofs.Common.{◌≡◌, ℕ, true, ◌∙◌, sym, subst}
 use Rattle.rows.specs.Rows.{Meaning}
 use Rattle.stores.specs.Behaviours.{Behaviour}
-use Rattle.search.specs.Calls.{Table, Answer, Judgement, judged, over, Does}
+use Rattle.rows.specs.Reasons.{Judgement}
+use Rattle.search.specs.Calls.{Table, Answer, judged, over, Does}
 use Rattle.search.specs.Calls.Call.{solve}
 use Rattle.search.specs.Results.{Invariant}
 use Rattle.search.specs.Theorems.{InvariantHolds, BranchesLowest, LevelsRise, NeverTwice, AnswersHold, ReadsHold, TablesGiven, ResultsAgree, SolveKeepsBudget, LimitsHold, StoresAgree}

@@ -2,7 +2,8 @@
 use Rattle.std.proofs.Common.{◌≡◌, ℕ, ◌<◌, ◌≤◌, Bool, true, false, ◌&&◌, eqb, ◌↔◌, List, [], ◌∷◌, refl, ap, subst, inl, inr, arith}
 use Rattle.std.proofs.lemmas.Bool.{both_ways, ne_eqb, eq-eqb, or_from, or_left, or_right, and_from, and_left, and_right, cases_order}
 use Rattle.rows.specs.Rows.{Meaning}
-use Rattle.search.specs.Calls.{Table, Call, Judgement, reasons, judge, judged}
+use Rattle.rows.specs.Reasons.{Judgement, judge}
+use Rattle.search.specs.Calls.{Table, Call, reasons, judged}
 use Rattle.search.specs.Results.{reason_fits}
 use Rattle.search.specs.Calls.Call.{declare, post, solve, read, wipe}
 use Rattle.rows.specs.Reasons.Judgement.{passes, declined}

@@ -9,7 +9,8 @@ use Rattle.stores.specs.declared.store.Stored.TheVariants.{Kept}
 use Rattle.search.proofs.AnyStore.{any}
 use Rattle.search.specs.Search.{Level, Place, Node, node, level_of, below, child, taken, BacksUp, Opens, Steps}
 use Rattle.search.specs.Propagation.{propagated}
-use Rattle.search.specs.Calls.{Table, Call, Answer, Judgement, over, place_answer, result, node_more, OpensNodes, Does, lost_after}
+use Rattle.rows.specs.Reasons.{Judgement}
+use Rattle.search.specs.Calls.{Table, Call, Answer, over, place_answer, result, node_more, OpensNodes, Does, lost_after}
 use Rattle.search.specs.CallOutcomes.{SameKeys}
 use Rattle.search.specs.Search.Place.{going, found, none}
 use Rattle.search.specs.Search.Node.{dead, solution, hit, branch}

@@ -2,8 +2,7 @@
 use Rattle.std.specs.Prelude.{◌≡◌, ℕ, zero, suc, ◌+◌, ◌^◌, ◌<◌, ◌≤◌, Bool, true, false, not, ◌&&◌, ◌||◌, ◌⊎◌, List, [], ◌∷◌, ◌++◌, length, drop, ◌==◌, nat_lt}
 use Rattle.rows.specs.Rows.{RowData, Meaning}
 use Rattle.rows.specs.Bytes.{Bytes, decode}
-pub use Rattle.rows.specs.Reasons.{declined_under, Judgement, judge}
-use Rattle.rows.specs.Reasons.{voice_reasons, row_reasons}
+use Rattle.rows.specs.Reasons.{Judgement, judge, voice_reasons, row_reasons}
 use Rattle.rows.specs.Reasons.Judgement.{passes, declined}
 use Rattle.stores.specs.Behaviours.{Behaviour}
 use Rattle.rows.specs.declared.limits.TheConstants.{MOST_BUDGET, MOST_OPENED}

@@ -8,8 +8,7 @@ use Rattle.rows.specs.Views.{rows_of}
 use Rattle.rows.specs.declared.row.Row.{Row}
 use Rattle.rows.specs.Bytes.{Bytes, LaidOut, total_bytes}
 use Rattle.stores.specs.Stores.{View, distinct_keys}
-use Rattle.rows.specs.declared.limits.TheConstants.{MOST_VOICES, MOST_ROWS, MOST_BYTES}
-use Rattle.rows.specs.declared.limits.TheConstants.{MOST_OPENED}
+use Rattle.rows.specs.declared.limits.TheConstants.{MOST_VOICES, MOST_ROWS, MOST_BYTES, MOST_OPENED}
 use Rattle.search.specs.Propagation.{round, rounds, size}
 use Rattle.search.specs.Search.{Place}
 use Rattle.rows.specs.Placed.{AllHold, Least, Lawless}

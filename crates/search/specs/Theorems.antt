@@ -8,7 +8,8 @@ use Rattle.stores.specs.Behaviours.{Behaviour}
 use Rattle.search.specs.Propagation.{propagated}
 use Rattle.search.specs.Search.{Place, Level, Steps}
 use Rattle.rows.specs.Placed.{AllAccepted, Lawful, SameLeast}
-use Rattle.search.specs.Calls.{Table, Call, Answer, Judgement, reasons, judged, over, OpensNodes, Does}
+use Rattle.rows.specs.Reasons.{Judgement}
+use Rattle.search.specs.Calls.{Table, Call, Answer, reasons, judged, over, OpensNodes, Does}
 use Rattle.search.specs.Calls.Call.{solve, read}
 use Rattle.search.specs.Histories.{History, keys_lost, calls_in, declared_voices, posted_rows}
 use Rattle.search.specs.Results.{Propagates, Projects, Invariant, Limited, SolveMeans, finished, Reads, Budgeted, reason_fits}

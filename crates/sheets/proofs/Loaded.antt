@@ -13,7 +13,8 @@ use Rattle.rows.specs.WrittenRows.{written_row}
 use Rattle.rows.proofs.RowBytes.{row_same}
 use Rattle.stores.specs.Behaviours.{Behaviour}
 use Rattle.stores.specs.Bare.{bare}
-use Rattle.search.specs.Calls.{Table, begun, Call, Answer, Judgement, reasons, judged, Does}
+use Rattle.rows.specs.Reasons.{Judgement}
+use Rattle.search.specs.Calls.{Table, begun, Call, Answer, reasons, judged, Does}
 use Rattle.search.specs.Calls.Call.{declare, post}
 use Rattle.search.specs.Calls.Answer.{done}
 use Rattle.search.specs.Histories.{History, LeadsTo}

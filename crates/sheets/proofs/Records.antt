@@ -4,7 +4,8 @@ use Rattle.std.proofs.lemmas.List.{length-take, take_all}
 use Rattle.std.proofs.lemmas.Bool.{cases_Bool, cases_lt, cond-true, cond-false, lt-ltb, le-ltb, eqb-true, eqb-false, eq-eqb, ne_eqb}
 use Rattle.rows.specs.Rows.{RowData, Meaning}
 use Rattle.rows.specs.Bytes.{count_byte, head_length, lettered}
-use Rattle.search.specs.Calls.{begun, Judgement, judged}
+use Rattle.rows.specs.Reasons.{Judgement}
+use Rattle.search.specs.Calls.{begun, judged}
 use Rattle.search.specs.Calls.Call.{declare, post}
 use Rattle.sheets.specs.declared.refusal.Layer.TheVariants.{Sheet}
 use Rattle.std.specs.Int.{w64, from_le_bytes}

@@ -10,7 +10,8 @@ use Rattle.rows.specs.Bytes.{count_byte, head_length, lettered, counted, right_l
 use Rattle.rows.proofs.Layouts.{bytes_both_ways}
 use Rattle.rows.proofs.RowBytes.{row_same}
 use Rattle.rows.specs.declared.limits.TheConstants.{MOST_ROWS, MOST_BYTES}
-use Rattle.search.specs.Calls.{begun, Judgement, judge, judged, declined_under}
+use Rattle.rows.specs.Reasons.{Judgement, judge, declined_under}
+use Rattle.search.specs.Calls.{begun, judged}
 use Rattle.search.specs.Calls.Call.{post}
 use Rattle.rows.specs.Placed.{AllAccepted}
 use Rattle.search.specs.Results.{AllLaidOut}

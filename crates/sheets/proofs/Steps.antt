@@ -6,7 +6,8 @@ use Rattle.rows.specs.Laws.{Laws}
 use Rattle.rows.specs.Bytes.{Bytes, decode}
 use Rattle.stores.specs.Behaviours.{Behaviour}
 use Rattle.stores.specs.Bare.{bare}
-use Rattle.search.specs.Calls.{Table, begun, empty, Answer, Judgement, judged, Does}
+use Rattle.rows.specs.Reasons.{Judgement}
+use Rattle.search.specs.Calls.{Table, begun, empty, Answer, judged, Does}
 use Rattle.search.specs.Calls.Call.{declare, post, wipe}
 use Rattle.table.specs.declared.refusal.Refusal.{Refusal}
 use Rattle.table.specs.Refusals.{refusal_number}

@@ -9,7 +9,8 @@ use Rattle.rows.specs.Bytes.{decode}
 use Rattle.stores.specs.Behaviours.{Behaviour}
 use Rattle.search.specs.Search.{Level, Place}
 use Rattle.search.specs.Search.Place.{fresh, going, found, none}
-use Rattle.search.specs.Calls.{Table, begun, Call, Answer, Formed, Judgement, judged, is_found, result, place_answer, Does}
+use Rattle.rows.specs.Reasons.{Judgement}
+use Rattle.search.specs.Calls.{Table, begun, Call, Answer, Formed, judged, is_found, result, place_answer, Does}
 use Rattle.search.specs.Calls.Call.{declare, post, solve, read, wipe}
 use Rattle.search.specs.Histories.{History}
 use Rattle.search.proofs.AnyStore.{goes_any}

@@ -7,7 +7,8 @@ use Rattle.sets.specs.Placings.{values}
 use Rattle.rows.specs.Rows.{Meaning}
 use Rattle.rows.specs.declared.limits.TheConstants.{MOST_VOICES, MOST_BUDGET, MOST_OPENED}
 use Rattle.search.specs.Search.{Place}
-use Rattle.search.specs.Calls.{Table, judge, judged, over, is_found, result}
+use Rattle.rows.specs.Reasons.{judge}
+use Rattle.search.specs.Calls.{Table, judged, over, is_found, result}
 use Rattle.search.specs.Calls.Call.{declare, solve, read}
 use Rattle.rows.specs.Reasons.Judgement.{passes, declined}
 

@@ -14,7 +14,8 @@ use Rattle.rows.specs.Reading.{checked, of_kind, row_verdict, row_after}
 use Rattle.rows.proofs.Layouts.{bytes_both_ways}
 use Rattle.rows.proofs.Readings.{layout_right}
 use Rattle.rows.specs.declared.limits.TheConstants.{MOST_ROWS, MOST_BYTES}
-use Rattle.search.specs.Calls.{Table, judge, judged, declined_under}
+use Rattle.rows.specs.Reasons.{judge, declined_under}
+use Rattle.search.specs.Calls.{Table, judged}
 use Rattle.search.specs.Calls.Call.{post}
 use Rattle.rows.specs.Reasons.Judgement.{passes, declined}
 
