@@ -98,4 +98,4 @@ limits_lead : list_all leads limits ≡ true
 limits_lead = refl
 
 pub limits_reached : LimitsReached
-limits_reached = record { histories = all_by leads SearchCaseHolds holds_so limits limits_lead; bytes_counted = refl }
+limits_reached = record { histories = all_by leads SearchCaseHolds holds_so limits limits_lead; bytes_counted = refl; sheet_bytes = refl; body_bytes = refl; key_words = refl }

@@ -13,6 +13,7 @@ use Rattle.rows.specs.Reasons.Judgement.{passes, declined}
 use Rattle.cases.specs.CaseRows.{differing}
 use Rattle.cases.specs.Tables.{large, first_differ, table_with}
 use Rattle.cases.specs.SearchCases.{SearchCase, calls_over, SearchCaseHolds}
+use Rattle.rows.specs.declared.limits.TheConstants.{MOST_SHEET, LONGEST_BODY, LONGEST_KEY}
 
 -- ---- what a case says
 
@@ -187,7 +188,10 @@ limits =
     ∷ calls_over large ((post (first_differ 1), refused 12) ∷ full_history) full_table 0 []
     ∷ []
 
--- The limits can be reached, and not passed.
+-- The limits can be reached, and not passed; those that no table reaches, by their numbers.
 pub record LimitsReached : Type 0 where
   pub histories : All SearchCaseHolds limits
   pub bytes_counted : total_bytes full_table.rows ≡ 8192
+  pub sheet_bytes : MOST_SHEET ≡ 20000
+  pub body_bytes : LONGEST_BODY ≡ 16
+  pub key_words : LONGEST_KEY ≡ 320

@@ -2,43 +2,43 @@
 use std::fmt;
 
 #[derive(Clone, Copy, Debug, PartialEq, Eq)]
-pub(crate) enum Verdict {
+pub(crate) enum Comparison {
     AsExpected,
     NotAsExpected,
 }
 
-impl fmt::Display for Verdict {
+impl fmt::Display for Comparison {
     fn fmt<W: fmt::Write>(&self, f: &mut fmt::Formatter<W>) -> fmt::Result {
         f.write_str(match self {
-            Verdict::AsExpected => "as expected",
-            Verdict::NotAsExpected => "NOT as expected",
+            Comparison::AsExpected => "as expected",
+            Comparison::NotAsExpected => "NOT as expected",
         })
     }
 }
 
 #[derive(Clone, Copy)]
 pub(crate) struct Example {
-    // what is so, if the verdict is "as expected"
+    // what is so, if the comparison is "as expected"
     pub(crate) shows: &'static str,
-    pub(crate) verdict: Verdict,
+    pub(crate) comparison: Comparison,
 }
 
 impl Example {
     // The example that shows this, by whether everything in it came out.
     pub(crate) fn new(shows: &'static str, came_out: bool) -> Example {
-        let verdict = if came_out {
-            Verdict::AsExpected
+        let comparison = if came_out {
+            Comparison::AsExpected
         } else {
-            Verdict::NotAsExpected
+            Comparison::NotAsExpected
         };
-        Example { shows, verdict }
+        Example { shows, comparison }
     }
 }
 
 impl fmt::Display for Example {
     fn fmt<W: fmt::Write>(&self, f: &mut fmt::Formatter<W>) -> fmt::Result {
         let shows = self.shows;
-        let verdict = self.verdict;
-        write!(f, "{shows}: {verdict}")
+        let comparison = self.comparison;
+        write!(f, "{shows}: {comparison}")
     }
 }

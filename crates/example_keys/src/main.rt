@@ -1,7 +1,7 @@
 // Worked examples: what the kinds, their traces, the keys and the search give, beside what was worked out by hand.
 #![tactic(auto)]
 
-use example::{Example, Verdict};
+use example::{Comparison, Example};
 use std::alloc::Global;
 
 mod clauses;
@@ -44,7 +44,7 @@ fn main(rt: HostRuntime) -> anyhow::Result<()> {
     }
     let met = examples
         .iter()
-        .filter(|example| example.verdict == Verdict::AsExpected)
+        .filter(|example| example.comparison == Comparison::AsExpected)
         .count();
     let all = examples.len();
     println!(rt; "{met} of {all} as expected")?;

@@ -13,7 +13,7 @@ use table::Table;
 use table::outcome::Outcome;
 
 // The most words of a key, the words of a shelf, the most nodes of a search: each more than any example needs.
-const MOST_LONGEST_KEY: usize = 64;
+const MOST_KEY_WORDS: usize = 64;
 
 const SHELF_WORDS: usize = 256;
 
@@ -72,7 +72,7 @@ impl Problem {
 
     // The key of the sets.
     pub(crate) fn key(&self, heap: Global, sets: &[ValueSet]) -> Result<Vec<u64>, AllocError> {
-        let mut words = Vec::from_elem(heap, 0u64, MOST_LONGEST_KEY)?;
+        let mut words = Vec::from_elem(heap, 0u64, MOST_KEY_WORDS)?;
         let length = write_key::<FourKinds>(&self.rows, sets, &mut words).unwrap_or(0);
         words.truncate(length);
         Ok(words)

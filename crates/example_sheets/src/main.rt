@@ -4,6 +4,8 @@
 ghost use Rattle.std.specs.Prelude.{◌≡◌, true, [], take, IfOk};
 ghost use Rattle.kinds.specs.FourKinds.{four_kinds};
 ghost use Rattle.stores.specs.ShelfLaws.{shelf};
+ghost use Rattle.sheets.specs.Reading.{read_sheet};
+ghost use Rattle.job.specs.Promised.{Promised};
 ghost use Rattle.job.specs.Planned.{Planned};
 
 use anyhow::{Context, Result};
@@ -24,7 +26,11 @@ const NAMES: [&str; 6] = [
 
 // Whether this is what is to be printed of the sheet.
 fn is_report(heap: Global, report: &[u8], sheet: &[u8]) -> Result<bool, AllocError>
-    ensures { IfOk result (λ same. same ≡ true → Planned shelf four_kinds (record { held = []; room = 4096 }) (take MOST_SHEET sheet.now) report.now) }
+    ensures promise { IfOk result (λ same. same ≡ true →
+        Promised four_kinds (read_sheet four_kinds (take MOST_SHEET sheet.now)) report.now) }
+    ensures history { IfOk result (λ same. same ≡ true →
+        Planned shelf four_kinds (record { held = []; room = 4096 })
+        (take MOST_SHEET sheet.now) report.now) }
 {
     let text = planned(heap, sheet)?;
     Ok(text.as_slice() == report)

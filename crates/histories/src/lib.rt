@@ -1,4 +1,4 @@
-// Whole histories of calls, played on a table.
+//! Whole histories of calls, played on a table.
 #![tactic(auto)]
 
 pub mod call;

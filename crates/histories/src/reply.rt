@@ -11,12 +11,14 @@ use stores::store::Store;
 use table::Table;
 use table::outcome::Outcome;
 
-/// How far a table's search is: what it has come to, how many nodes it has opened, and how many
-/// were exhausted since the store was emptied.
+/// How far a table's search is.
 #[derive(Clone, Copy, Debug, PartialEq, Eq)]
 pub struct Progress {
+    /// What the search has come to.
     pub outcome: Outcome,
+    /// The nodes opened since the search began.
     pub opened: u64,
+    /// The nodes exhausted since the store was emptied.
     pub exhausted: u64,
 }
 
@@ -50,7 +52,9 @@ impl fmt::Display for Progress {
 /// The answer to a call, and the progress of the search after it.
 #[derive(Debug, PartialEq, Drop)]
 pub struct Reply {
+    /// The answer to the call.
     pub answer: Answer,
+    /// The progress of the search after it.
     pub progress: Progress,
 }
 

@@ -7,8 +7,9 @@ use Rattle.sheets.specs.Reading.{SheetReading}
 use Rattle.sheets.specs.Reading.SheetReading.{accepted, refused}
 use Rattle.job.specs.Texts.{refused_line, outcome_text}
 
--- The report of these voices and rows: `found` with the least lawful placing; `none`, where there is no lawful placing; or `stopped`, which says
--- nothing of the placings, and only once 1,000,000 nodes were opened.
+-- The report of these voices and rows: `found` with the least lawful placing; `none`, where there is
+-- no lawful placing; or `stopped`, which says nothing of the placings. It has 1,000,000 in its line
+-- `opened`; that so many nodes were opened, and the search is not over, is said by `Planned`.
 pub data Reports (m : Meaning) (voices : List ℕ) (rows : List RowData) : List ℕ → Type 0 where
   found : (p : List ℕ) (opened exhausted : ℕ) → Least m voices rows p
       → Reports m voices rows (outcome_text (codes "found") opened exhausted p)

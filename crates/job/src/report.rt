@@ -16,8 +16,8 @@ use table::Table;
 use table::outcome::Outcome;
 use table::refusal::Refusal;
 
-/// How many bytes a report has at most: `stopped`, two counts of 13 and 14 digits, and 80 lines of
-/// a voice and its value.
+/// Enough bytes for any report: a first line of 8, two counts of 13 and 14 digits, and 80 lines of 6,
+/// each a voice and its value.
 pub const MOST_REPORT: usize = 534;
 
 // The found values, which are written into `values`; none where nothing was found.
@@ -94,8 +94,8 @@ pub fn report_length<B: Bank, S: Store>(
 }
 
 /// Writes at the front of `out` what `plan` prints of the table, after a Load with this answer, and
-/// returns how many bytes; those beyond stay. (Load returns a fault and leaves voices and rows in
-/// the table, so both are given.)
+/// returns how many bytes; those beyond stay. (Both are given: the answer
+/// has the refusal, the table all else.)
 ///
 /// # Errors
 /// `out` is shorter than the report: nothing is written.

@@ -11,7 +11,7 @@ ghost use Rattle.kinds.specs.DifferingLaws.{all_different_lawful};
 
 use rows::kind::Kind;
 use rows::member::Member;
-use rows::narrowing::{are_declared, is_shaped, judge, keep_only, set_of};
+use rows::narrowing::{are_declared, is_shaped, keep_only, kind_verdict, set_of};
 use rows::refusal::KindRefusal;
 use rows::row::{Row, RowError};
 use rows::trace::Trace;
@@ -126,7 +126,7 @@ impl Kind for AllDifferent {
     fn accept(row: &Row, voices: usize) -> Result<(), KindRefusal> {
         let members = row.members();
         let shape = is_shaped(row, Self::LETTER, Self::BODY_LENGTH);
-        judge(
+        kind_verdict(
             shape,
             are_declared(members, voices),
             have_no_arguments(members) && have_own_voices(members),

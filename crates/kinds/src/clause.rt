@@ -14,7 +14,7 @@ ghost use Rattle.kinds.specs.LiteralsLaws.{clause_lawful};
 
 use rows::kind::Kind;
 use rows::member::Member;
-use rows::narrowing::{are_declared, is_shaped, judge, keep_only, set_of};
+use rows::narrowing::{are_declared, is_shaped, keep_only, kind_verdict, set_of};
 use rows::refusal::KindRefusal;
 use rows::row::{Row, RowError};
 use rows::trace::Trace;
@@ -182,7 +182,7 @@ impl Kind for Clause {
         let shape = is_shaped(row, Clause::LETTER, Clause::BODY_LENGTH);
         let declared = are_declared(row.members(), voices);
         let rule = are_in_range(row.members());
-        judge(shape, declared, rule)
+        kind_verdict(shape, declared, rule)
     }
 
     // By the literals that are not refuted: where there are none, the first member's set becomes

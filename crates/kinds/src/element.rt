@@ -11,7 +11,7 @@ ghost use Rattle.kinds.specs.EntriesLaws.{element_lawful};
 
 use rows::kind::Kind;
 use rows::member::Member;
-use rows::narrowing::{is_shaped, judge, keep_only, set_of};
+use rows::narrowing::{is_shaped, keep_only, kind_verdict, set_of};
 use rows::refusal::KindRefusal;
 use rows::row::{Row, RowError};
 use rows::trace::Trace;
@@ -141,7 +141,7 @@ impl Kind for Element {
         let declared = usize::from(index_voice(row)) < voices
             && usize::from(result_voice(row)) < voices;
         let rule = are_entries(row.members());
-        judge(shape, declared, rule)
+        kind_verdict(shape, declared, rule)
     }
 
     fn turn(row: &Row, sets: &mut [ValueSet]) -> bool

@@ -1,4 +1,4 @@
-// The four kinds of rows, and the bank of the four side by side.
+//! The four kinds of rows, and the bank of the four side by side.
 #![tactic(auto)]
 
 ghost use Rattle.std.specs.Prelude.{◌≡◌};

@@ -12,7 +12,7 @@ ghost use Rattle.kinds.specs.SumsLaws.{linear_lawful};
 use rows::kind::Kind;
 use rows::limits::MOST_MEMBERS;
 use rows::member::Member;
-use rows::narrowing::{are_declared, is_shaped, judge, keep_only, set_of};
+use rows::narrowing::{are_declared, is_shaped, keep_only, kind_verdict, set_of};
 use rows::refusal::KindRefusal;
 use rows::row::{Row, RowError};
 use rows::trace::Trace;
@@ -82,7 +82,7 @@ fn ends(member: Member, sets: &[ValueSet]) -> (i64, i64)
 fn sums(row: &Row, sets: &[ValueSet]) -> (i64, i64)
     ensures greatest { result.0 ≡ total (high sets.now) (row_of row.now).members }
     ensures placed { result.1 ≡ total (placed sets.now) (row_of row.now).members }
-    ensures near { Near (32 * 32768 * 64) result.1 }
+    ensures near { Near (MOST_MEMBERS * 32768 * 64) result.1 }
 {
     let mut greatest = 0;
     let mut placed = 0;
@@ -137,7 +137,7 @@ fn lowest_terms(row: &Row, sets: &[ValueSet]) -> ([i32; MOST_MEMBERS], i64, i64)
         map (low sets.now) (row_of row.now).members }
     ensures small { (k : ℕ) → Near (32768 * 64) (slice_index_or result.0 k (pos 0)) }
     ensures sum { result.1 ≡ total (low sets.now) (row_of row.now).members }
-    ensures near { Near (32 * 32768 * 64) result.1 }
+    ensures near { Near (MOST_MEMBERS * 32768 * 64) result.1 }
     ensures widest { list_all (λ m. int_le (high sets.now m -ℤ low sets.now m) result.2)
         (row_of row.now).members ≡ true }
 {
@@ -222,7 +222,7 @@ impl Kind for Linear {
 
     fn accept(row: &Row, voices: usize) -> Result<(), KindRefusal> {
         let shaped = is_shaped(row, Self::LETTER, Self::BODY_LENGTH);
-        judge(
+        kind_verdict(
             shaped,
             are_declared(row.members(), voices),
             is_in_range(row),

@@ -32,9 +32,10 @@ pub record Accepted (m : Meaning) (r : RowData) (n : ℕ) : Type 0 where
 abbrev pub AcceptedFor : KindMeaning → RowData → List ℕ → Type 0
 AcceptedFor k r s = Accepted (alone k) r (length s)
 
--- After a turn on an accepted row, where no set was empty, it is told whether a value went.
-abbrev pub ChangeTold : Meaning → RowData → (before after : List ℕ) → Bool → Type 0
-ChangeTold m r before after told = Accepted m r (length before) → Proper before → told ≡ changed after before
+-- After a turn on an accepted row, where no set was empty, the result says whether a value was taken
+-- out.
+abbrev pub ChangeReported : Meaning → RowData → (before after : List ℕ) → Bool → Type 0
+ChangeReported m r before after changes = Accepted m r (length before) → Proper before → changes ≡ changed after before
 
 -- two lists of sets with the same fixed voices, at values that may differ, and equal sets elsewhere
 pub record Alike (s t : List ℕ) : Type 0 where

@@ -2,7 +2,7 @@
 ghost use Rattle.std.specs.Prelude.{◌≡◌, if◌then◌else◌, Some, None, length};
 ghost use Rattle.sets.specs.Placings.{changed, Proper};
 ghost use Rattle.rows.specs.Rows.{Meaning, known_body_length, alone, beside};
-ghost use Rattle.rows.specs.Laws.{Laws, ChangeTold};
+ghost use Rattle.rows.specs.Laws.{Laws, ChangeReported};
 ghost use Rattle.rows.specs.Views.{row_of};
 ghost use Rattle.rows.specs.SideBySide.{beside_lawful};
 
@@ -13,7 +13,7 @@ use crate::trace::Trace;
 use sets::ValueSet;
 use std::marker::PhantomData;
 
-/// What a table asks of the rows of several kinds.
+/// A set of kinds, as a table uses it.
 pub trait Bank {
     // what the rows of the bank's kinds mean
     ghost meaning: { Meaning };
@@ -31,7 +31,7 @@ pub trait Bank {
     /// may be either.
     fn turn(row: &Row, sets: &mut [ValueSet]) -> bool
         ensures after { sets.new ≡ meaning.turn (row_of row.now) sets.old }
-        ensures value { ChangeTold meaning (row_of row.now) sets.old sets.new result };
+        ensures value { ChangeReported meaning (row_of row.now) sets.old sets.new result };
 
     /// What the fixed voices leave of the row.
     fn trace(row: &Row, sets: &[ValueSet]) -> Trace
@@ -74,8 +74,7 @@ pub struct Beside<X, Y> {
     second: PhantomData<Y>,
 }
 
-// Each of the three functions sees whose letter it is: what follows differs, and a closure for it
-// would be no plainer.
+// The test of the letter is repeated: the call after it differs.
 impl<X: Bank, Y: Bank> Bank for Beside<X, Y> {
     ghost meaning = { beside X.Bank.meaning Y.Bank.meaning };
 

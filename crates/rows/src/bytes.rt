@@ -1,7 +1,7 @@
 // Rows and their bytes.
 ghost use Rattle.rows.specs.Bytes.{BytesBothWays};
 
-/// A law: rows of the layout and their bytes stand for each other, both ways.
+/// A law: bytes and rows of this layout determine each other.
 pub fn bytes_both_ways()
     ensures { BytesBothWays }
 {}

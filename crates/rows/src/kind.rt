@@ -2,7 +2,7 @@
 ghost use Rattle.std.specs.Prelude.{◌≡◌, ℕ};
 ghost use Rattle.sets.specs.Placings.{changed, Proper};
 ghost use Rattle.rows.specs.Rows.{KindMeaning, alone};
-ghost use Rattle.rows.specs.Laws.{Laws, ChangeTold};
+ghost use Rattle.rows.specs.Laws.{Laws, ChangeReported};
 ghost use Rattle.rows.specs.Views.{row_of};
 
 use crate::refusal::KindRefusal;
@@ -43,7 +43,7 @@ pub trait Kind {
     /// may be either.
     fn turn(row: &Row, sets: &mut [ValueSet]) -> bool
         ensures after { sets.new ≡ meaning.turn (row_of row.now) sets.old }
-        ensures value { ChangeTold (alone meaning) (row_of row.now) sets.old sets.new result };
+        ensures value { ChangeReported (alone meaning) (row_of row.now) sets.old sets.new result };
 
     /// What the fixed voices leave of the row.
     fn trace(row: &Row, sets: &[ValueSet]) -> Trace

@@ -1,5 +1,5 @@
-// Rows (constraints) and their bytes, what a kind and a bank of kinds have to do, and two banks
-// side by side.
+//! Rows (constraints) and their bytes, what a kind and a bank of kinds have to do, and two banks
+//! side by side.
 #![tactic(auto)]
 
 pub mod bank;

@@ -1,4 +1,5 @@
-// The limits of rows, tables, searches and sheets. Each stands here alone: code and definitions cite these constants.
+//! The limits of rows, tables, searches and sheets; the kinds' own are in `kinds`, the shelf's in
+//! `stores`. Code and definitions cite these constants.
 
 /// The most members of a row.
 pub const MOST_MEMBERS: usize = 32;
@@ -16,7 +17,7 @@ pub const MOST_ROWS: usize = 120;
 pub const MOST_BYTES: usize = 8_192;
 
 /// The words of the longest key: one for each voice, two for each row.
-pub const LONGEST_KEY: usize = 320;
+pub const LONGEST_KEY: usize = MOST_VOICES + 2 * MOST_ROWS;
 
 /// The largest budget of a Solve, in nodes.
 pub const MOST_BUDGET: u64 = 1_000_000;

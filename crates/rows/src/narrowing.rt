@@ -35,8 +35,8 @@ pub fn keep_only(sets: &mut [ValueSet], voice: u16, kept: ValueSet) -> bool
 }
 
 /// Whether a row has this letter, so many body bytes, a count from 1 to 32 and that many members.
-/// (The kinds pass their own constants: a type parameter would have to be a kind, and they call
-/// this where they are made kinds.)
+/// (The kinds pass their own constants: this is called inside `impl Kind`, where a kind cannot be a
+/// type parameter.)
 pub fn is_shaped(row: &Row, letter: u8, body_length: usize) -> bool
     ensures { result ≡ shaped letter body_length (row_of row.now) }
 {
@@ -54,9 +54,9 @@ pub fn are_declared(members: &[Member], voices: usize) -> bool
     members.iter().all(|m| usize::from(m.voice) < voices)
 }
 
-/// A row's verdict, by its shape, its voices and the kind's own rule. Of two things that are wrong,
-/// an undeclared voice is told before a broken rule.
-pub fn judge(shape: bool, declared: bool, rule: bool) -> Result<(), KindRefusal>
+/// A row's verdict, by its shape, its voices and the kind's own rule. Where
+/// a voice is undeclared and the rule is broken, the refusal is that of the voice.
+pub fn kind_verdict(shape: bool, declared: bool, rule: bool) -> Result<(), KindRefusal>
     ensures { result ≡ verdict shape declared rule }
 {
     if !shape {

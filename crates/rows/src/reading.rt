@@ -11,7 +11,7 @@ use crate::member::{MEMBER_MARK, Member};
 use crate::refusal::RowRefusal;
 use crate::row::Row;
 
-// The length of the body that the letter asks for.
+// The body length of rows with this letter.
 fn body_length<B: Bank>(bytes: &[u8]) -> Result<usize, RowRefusal>
     ensures { result ≡ checked (lettered B.Bank.meaning bytes.now) UnknownLetter
         (Ok (B.Bank.meaning.body_length (letter_byte bytes.now))) }

@@ -121,7 +121,7 @@ pub record Solved (b : Behaviour) (m : Meaning) (budget : ℕ) (t : Table) (s : 
   pub goes : OpensNodes b m count t s u r lost
   pub ends : (over u.place ≡ true) ⊎ (count ≡ budget)
 
--- what Solve answers when the search then stands here
+-- Solve's answer where the search has come to this
 abbrev pub place_answer : Place → Answer
 place_answer Place.fresh = stopped
 place_answer (Place.going l ls) = stopped
@@ -146,7 +146,7 @@ pub data Does (b : Behaviour) (m : Meaning) (t : Table) (s : b.State) : Call →
       → Does b m t s (read buffer) (wrote (length p) (p ++ drop (length p) buffer)) t s
 
 -- How many keys the store has lost since it was emptied, where it had lost n before this call. No
--- table keeps this count: the store's answers say it.
+-- table has this count: it follows from what Keep returned.
 abbrev pub lost_after : {b : Behaviour} {m : Meaning} {t : Table} {s : b.State} {c : Call}
     {a : Answer} {u : Table} {r : b.State} → Does b m t s c a u r → ℕ → ℕ
 lost_after (Does.declines c k j) n = n

@@ -59,7 +59,7 @@ pub record Invariant (m : Meaning) (lost : ℕ) (t : Table) (v : View) : Type 0 
   pub none_lawful : t.place ≡ Place.none → Lawless m t.voices t.rows
   -- a store that has lost no key holds as many as nodes were exhausted
   pub all_kept : lost ≡ 0 → length v.held ≡ t.exhausted
-  -- no key is told twice
+  -- no key occurs twice
   pub distinct : distinct_keys v.held ≡ true
   -- no node has more than 64 children
   pub bounded : t.opened ≤ 1 + 64 * (t.exhausted + length t.voices)

@@ -1,4 +1,4 @@
--- What the code's answer on a round says.
+-- What the result of `run_round` means.
 use Rattle.std.specs.Prelude.{ℕ, Bool, true, false, Option, Some, None}
 use Rattle.search.specs.declared.propagation.RoundEnd.{RoundEnd}
 use Rattle.search.specs.declared.propagation.RoundEnd.TheVariants.{Emptied, Settled, Due}

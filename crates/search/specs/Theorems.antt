@@ -36,7 +36,7 @@ KeysProject = (m : Meaning) → Laws m → (rows : List RowData) (s t : List ℕ
 
 -- ---- the search, over a store with the behaviour b, which was in the state g when the table was made
 
--- What stands after every history: a found result is the least lawful placing, none says that there is none, keys and nodes are counted right.
+-- What holds after every history: a found result is the least lawful placing, none says that there is none, keys and nodes are counted right.
 abbrev pub InvariantHolds : Behaviour → Type 0
 InvariantHolds b = (m : Meaning) → Laws m → (g : b.State) (h : List (Call × Answer)) (t : Table)
     (s : b.State) (H : History b m g h t s) → Invariant m (keys_lost H) t (b.view s)

@@ -1,5 +1,5 @@
-// Sets of the values 0 to 63 (the domains of variables) as masks of 64 bits: bit v is set where
-// the value v is in the set.
+//! Sets of the values 0 to 63 (the domains of variables) as masks of 64 bits: bit v is set where
+//! the value v is in the set.
 #![tactic(auto)]
 
 ghost use Rattle.std.specs.Prelude.{◌≡◌, ◌-◌, not, if◌then◌else◌, Some, None, ◌==◌, nat_eq, nat_le};

@@ -1,4 +1,4 @@
--- What Load returns and leaves, and what lasts over whole histories of calls.
+-- What Load returns and leaves, and how it extends every history of calls.
 use Rattle.std.specs.Prelude.{◌≡◌, ℕ, List, [], ◌∷◌, ◌++◌, length, Some, None, Ok, Err, Option, Result}
 use Rattle.rows.specs.declared.bank.Bank as bank
 use Rattle.rows.specs.Rows.{RowData, Meaning}
@@ -16,6 +16,7 @@ use Rattle.sheets.specs.declared.refusal.RecordRefusal.{RecordRefusal}
 use Rattle.sheets.specs.declared.refusal.Layer.{Layer}
 use Rattle.sheets.specs.declared.refusal.SheetRefusal.{SheetRefusal}
 use Rattle.sheets.specs.Causes.{cause_number, cause_layer, cause_offset}
+use Rattle.sheets.specs.Sheets.{sheet}
 use Rattle.sheets.specs.Reading.{RecordReading, SheetReading, read_sheet}
 use Rattle.sheets.specs.Reading.RecordReading.{last, voice, row, fault}
 use Rattle.sheets.specs.Reading.SheetReading.{accepted, refused}
@@ -71,14 +72,6 @@ pub record LoadLeaves (b : Behaviour) (m : Meaning) (bytes : List ℕ) (s : b.St
   pub history : FillHistory b m s [] bytes (read_sheet m bytes) u r
   pub invariant : Invariant m 0 u (b.view r)
 
--- A new table over a store that was in this state, and the answer of its Load: the one that the sheet
--- must have, and the table as a Load leaves it.
-module _ {B S : Type 0} {b : bank.Ghosts B} {s : store.Ghosts S} where
-  pub record LoadsNew (given : s.behaviour.State) (bytes : List ℕ) (t : tables.Table B S b s)
-      (answer : Result Unit SheetRefusal) : Type 0 where
-    pub value : load_answer answer ≡ reading_answer (read_sheet b.meaning bytes)
-    pub leaves : LoadLeaves s.behaviour b.meaning bytes given (model t) (store_in t)
-
 -- Whatever the calls were that led to an empty table and the state s, in which no key was lost: so it
 -- is after the records; and what holds after every history holds.
 pub record FillExtends (b : Behaviour) (m : Meaning) (s : b.State) (bytes : List ℕ) (u : Table)
@@ -101,6 +94,16 @@ pub record LoadExtends (b : Behaviour) (m : Meaning) (t : Table) (s : b.State) (
 abbrev pub LoadBack : SheetReading → List ℕ → List ℕ → Type 0
 LoadBack (accepted voices rows) bytes saved = saved ≡ bytes
 LoadBack (refused number place layer) bytes saved = Unit {0}
+
+-- A new table over a store that was in this state, and the answer of its Load: the one that the sheet
+-- must have, the table as a Load leaves it, and, where the sheet was accepted, the bytes as the sheet
+-- of that table.
+module _ {B S : Type 0} {b : bank.Ghosts B} {s : store.Ghosts S} where
+  pub record LoadsNew (given : s.behaviour.State) (bytes : List ℕ) (t : tables.Table B S b s)
+      (answer : Result Unit SheetRefusal) : Type 0 where
+    pub value : load_answer answer ≡ reading_answer (read_sheet b.meaning bytes)
+    pub leaves : LoadLeaves s.behaviour b.meaning bytes given (model t) (store_in t)
+    pub back : LoadBack (read_sheet b.meaning bytes) bytes (sheet (model t).voices (model t).rows)
 
 -- ---- one record
 

@@ -1,4 +1,4 @@
-// Sheets: a table's voices and rows as bytes, loaded and saved.
+//! Sheets: a table's voices and rows as bytes, loaded and saved.
 #![tactic(auto)]
 
 pub mod laws;

@@ -29,10 +29,9 @@ fn front_row<B: Bank>(bytes: &[u8]) -> &[u8]
     &bytes[..length.min(bytes.len())]
 }
 
-// Each of the three functions that read a record requires that the search has not begun: a struct
-// over the borrowed table that knew it would have to say in each of them that it borrows the same
-// table, which is one clause for another; and of all three in one function the check did not end in
-// ten minutes.
+// Each of the three functions that read a record requires that the search has not begun. A struct
+// over the borrowed table that knew it would save no clause: each would have to say that it borrows
+// the same table. As one function, the check took over ten minutes.
 
 // Declares the voice whose record, after its first byte, is at the front. Returns the record's
 // length.

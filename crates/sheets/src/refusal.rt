@@ -10,8 +10,11 @@ use table::refusal::Refusal;
 /// Who refuses: the reader of the sheet, the reader of a row with its kind, or the table.
 #[derive(Clone, Copy, Debug, PartialEq, Eq)]
 pub enum Layer {
+    /// The reader of the sheet.
     Sheet,
+    /// The reader of a row, or its kind.
     Row,
+    /// The table.
     Table,
 }
 
@@ -123,6 +126,7 @@ impl From<Refusal> for RecordRefusal {
 /// Why a sheet is refused: what is wrong with its first faulty record, and where.
 #[derive(Clone, Copy, Debug, PartialEq, Eq)]
 pub struct SheetRefusal {
+    /// What is wrong with the record.
     pub cause: RecordRefusal,
     /// In bytes from the sheet's first.
     pub place: usize,

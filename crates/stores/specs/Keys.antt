@@ -19,7 +19,8 @@ trace_words m sets (r ∷ rows) = mark_word (m.trace r sets) ∷ (content_word (
 abbrev pub key : Meaning → List RowData → List ℕ → List ℕ
 key m rows sets = voice_words sets ++ trace_words m sets rows
 
--- what writing a key at the front of words answers, its length or that they are too few, and what it leaves: words beyond the key stay
+-- what `write_key` returns (the key's length, or none where there is no room), and the words then: those
+-- beyond the key stay
 abbrev pub put_answer : List ℕ → List ℕ → Option ℕ
 put_answer k words = cond (nat_le (length k) (length words)) (Some (length k)) None
 

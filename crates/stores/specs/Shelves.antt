@@ -1,10 +1,10 @@
--- The shelf: keys one after the other in lent words, each behind a header word.
+-- The shelf: keys one after the other in borrowed words, each behind a header word.
 use Rattle.std.specs.Prelude.{◌≡◌, ℕ, zero, suc, ◌+◌, ◌-◌, ◌*◌, ◌/◌, ◌%◌, ◌^◌, ◌<◌, min, cond, nat_eq, List, [], ◌∷◌, ◌++◌, length, take, drop, reverse, slice_index}
 use Rattle.stores.specs.Stores.{View, member, fits_space}
 use Rattle.stores.specs.declared.store.Stored.{Stored}
 use Rattle.stores.specs.declared.store.Stored.TheVariants.{Kept, Lost}
 
--- of lent words the first 65,536 at most are used
+-- of borrowed words the first 65,536 at most are used
 abbrev pub room_of : ℕ → ℕ
 room_of words = min words 65536
 
@@ -66,7 +66,7 @@ recent_keys ws = reverse (shelved_keys ws)
 abbrev pub Whole : List ℕ → Type 0
 Whole ws = words_written (recent_keys ws) ≡ ws
 
--- the heads tell where each bucket's newest key lies
+-- each head is the place of its bucket's newest key
 abbrev pub Indexed : List ℕ → List ℕ → Type 0
 Indexed heads ws = (b : ℕ) → b < 1024 → slice_index heads b ≡ newest b (recent_keys ws)
 

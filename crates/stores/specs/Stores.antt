@@ -9,7 +9,7 @@ use Rattle.stores.specs.declared.store.Stored.TheVariants.{Kept, Lost}
 abbrev pub member : List ℕ → List (List ℕ) → Bool
 member k keys = list_any (same k) keys
 
--- no key is told twice
+-- no key occurs twice
 abbrev pub distinct_keys : List (List ℕ) → Bool
 distinct_keys [] = true
 distinct_keys (k ∷ keys) = not (member k keys) && distinct_keys keys

@@ -35,7 +35,7 @@ pub trait Store {
         ensures { IsTrue result → ((behaviour.view (state self.now)).held ≡ []) };
 
     /// Whether a key of so many words need not be given: `keep` would change nothing, and would lose a key that is not
-    /// held already. A store may always return false, and has to where such a key would change it.
+    /// held already. False is always allowed, and required where `keep` would alter the store.
     fn turns_away(&self, words: usize) -> bool
         ensures { IsTrue result → TurnsAway behaviour (state self.now) words };
 

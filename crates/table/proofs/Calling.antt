@@ -1,4 +1,4 @@
--- What a call does, from what its code leaves; and what then lasts over whole histories.
+-- What a call does, from what its code leaves; and that it extends every history.
 use Rattle.std.proofs.Common.{◌≡◌, ℕ, ◌+◌, ◌≤◌, false, ◌⊎◌, List, [], ◌∷◌, ◌++◌, length, drop, Ok, Err, Result, OnErr, vec_items, sym, refl, ap, ◌∙◌, subst, inl, inr, arith}
 use Rattle.std.proofs.lemmas.List.{length-map}
 use Rattle.sets.specs.Sets.{least}

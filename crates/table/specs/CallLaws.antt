@@ -1,4 +1,4 @@
--- What lasts over whole histories of calls.
+-- What an answer means, and how a call extends every history.
 use Rattle.std.specs.Prelude.{ℕ, List, ◌∷◌}
 use Rattle.rows.specs.Rows.{Meaning}
 use Rattle.stores.specs.Behaviours.{Behaviour}

@@ -1,4 +1,4 @@
--- What the code's answer on a node says.
+-- What the results of the code on a node mean.
 use Rattle.std.specs.Prelude.{◌≡◌, ℕ, ◌<◌, ◌≤◌, true, List, length, drop, slice_index, Option, Some, None}
 use Rattle.sets.specs.Placings.{values, all_fixed, Proper}
 use Rattle.search.specs.Search as search

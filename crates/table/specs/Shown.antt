@@ -38,7 +38,7 @@ module _ {B S : Type 0} {b : bank.Ghosts B} {s : store.Ghosts S} where
   abbrev pub CallDone : Table B S b s → Call → Answer → Table B S b s → Type 0
   CallDone t c a u = Does s.behaviour b.meaning (model t) (store_in t) c a (model u) (store_in u)
 
-  -- and by what lasts over whole histories of calls
+  -- and by how it extends every history of calls
   abbrev pub CallExtends : Table B S b s → Call → Answer → Table B S b s → Type 0
   CallExtends t c a u = ExtendsHistories s.behaviour b.meaning (model t) (store_in t) c a (model u) (store_in u)
 

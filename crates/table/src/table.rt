@@ -53,7 +53,7 @@ pub struct Table<B: Bank, S: Store> {
 
 // Memory for the rows, and one more.
 fn make_rows(heap: Global) -> Result<Vec<Row>, AllocError>
-    ensures { IfOk result (λ rows. vec_len rows ≡ 121) }
+    ensures { IfOk result (λ rows. vec_len rows ≡ MOST_ROWS + 1) }
 {
     let mut rows = Vec::with_capacity(heap, MOST_ROWS + 1)?;
     for _ in 0..MOST_ROWS + 1 {

@@ -46,7 +46,7 @@ module _ {B S : Type 0} {b : bank.Ghosts B} {s : store.Ghosts S} where
   Posts (Ok x) t bytes a u = CallDone t (Call.post bytes) a u
   Posts (Err refusal) t bytes a u = u ≡ t
 
-  -- and then what lasts over whole histories of calls lasts over this Post
+  -- and then this Post extends every history of calls
   abbrev pub PostExtends : TicketVerdict → Table B S b s → List ℕ → Answer → Table B S b s → Type 0
   PostExtends (Ok x) t bytes a u = CallExtends t (Call.post bytes) a u
   PostExtends (Err refusal) t bytes a u = u ≡ t

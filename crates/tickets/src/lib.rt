@@ -1,4 +1,4 @@
-// Rows built with a ticket, in memory that is handed over at each call.
+//! Rows built with a ticket, in memory that is handed over at each call.
 #![tactic(auto)]
 
 pub mod refusal;

@@ -181,7 +181,9 @@ impl Ticket {
 
 /// A step was refused: the ticket as it was, and why.
 pub struct HandedBack {
+    /// The ticket, which can be used again.
     pub ticket: Ticket,
+    /// Why; never `Post`.
     pub refusal: TicketRefusal,
 }
 

@@ -1,4 +1,4 @@
-// A level of a search without its sets, and where a search stands that has no level.
+// A level of a search without its sets, and the state of a search without levels.
 ghost use Rattle.std.specs.Prelude.{◌≡◌, ◌-◌, ◌<◌};
 ghost use Rattle.sets.specs.Sets.{least, only};
 
