@@ -20,7 +20,7 @@ A line of a title is a voice or a row; what follows # is a comment. Voices come 
     table strings -> bank: 4 4 5    bank has the entry of this table at the place, from 0, that strings has (E)
 
 A name begins with a letter. Everywhere a voice may be given by its number instead, from 0 in the order of the voices.
-Exit status: 0 where the work was done, 2 where a file has a mistake (each is told with its line; nothing is written), 1 where a program or its output failed."""
+Exit status: 0 where the work was done, 2 where a file has a mistake (up to 20 are printed, each with its line; nothing is written), 1 where a program or its output failed."""
 import argparse
 import difflib
 import os
@@ -94,7 +94,7 @@ def counted(number, noun):
 def integer(word, low, high, what):
     """The number that a word is, within these bounds."""
     if not re.fullmatch(r'-?[0-9]+', word):
-        raise Mistake(f'{what} is wanted here, and {word!r} is no number')
+        raise Mistake(f'{what} is wanted here, and {word!r} is not a number')
     # longer ones are no use, and too long for int()
     number = int(word) if len(word) <= 20 else None
     if number is None or not low <= number <= high:
@@ -124,7 +124,7 @@ def written_row(row):
 
 
 class Reader:
-    """Reads a title line by line, and keeps what is wrong with each."""
+    """Reads a title line by line, and collects what is wrong with each."""
     def __init__(self, source):
         self.source = source
         self.title = Title([], [])
@@ -171,7 +171,7 @@ class Reader:
 
     def check_voice(self, name):
         if self.title.rows:
-            raise Mistake('a voice stands before all rows')
+            raise Mistake('voices come before rows')
         if len(self.title.voices) >= MOST_VOICES:
             raise Mistake(f'a title has no more than {MOST_VOICES} voices')
         if name is not None and not NAME.fullmatch(name):
@@ -211,7 +211,7 @@ class Reader:
         found = [self.voice(it) for it in words]
         for place, it in enumerate(found):
             if it in found[:place]:
-                raise Mistake(f'{self.title.labels()[it]} stands twice')
+                raise Mistake(f'{self.title.labels()[it]} is named twice')
         return Row('A', b'', [(it, 0) for it in found])
 
     def sums(self, word, rest):
@@ -368,7 +368,7 @@ def broken_rule(row):
     if row.letter == 'L' and abs(struct.unpack('<i', row.body)[0]) > MOST_BOUND:
         return f'the bound is not from {-MOST_BOUND:,} to {MOST_BOUND:,}'
     if row.letter == 'A' and len(set(voices)) < len(voices):
-        return f'voice {next(it for it in voices if voices.count(it) > 1)} stands twice'
+        return f'voice {next(it for it in voices if voices.count(it) > 1)} is named twice'
     if row.letter == 'E' and any(voices):
         return 'an entry has another voice byte than 0'
     for it in arguments:
@@ -380,8 +380,8 @@ def broken_rule(row):
 # ---- reports
 
 MEANINGS = {
-    'found': 'the least placing that keeps every row',
-    'none': 'no placing keeps every row',
+    'found': 'the least placing for which every row holds',
+    'none': 'there is no placing for which every row holds',
     'stopped': 'the search is not over, and nothing is claimed',
 }
 
