@@ -21,7 +21,7 @@ use Rattle.cases.specs.Tables.{CaseStore}
 use Rattle.cases.specs.Tables.CaseStore.{shelf_of, bare}
 use Rattle.cases.specs.SearchCases.{SearchCase, SearchHolds, SearchHoldsOver, SearchCaseHolds}
 use Rattle.cases.specs.Searches.{searches, SearchesHold}
-use Rattle.cases.specs.Refusals.{CallCase, CallHolds, refusals, RefusalsHold, limits, LimitsReached}
+use Rattle.cases.specs.Refusals.{CallCase, CallHolds, refusals, RefusalsHold, limit_histories, LimitsReached}
 use Rattle.cases.specs.Refusals.CallCase.{judgement_of, bytes_of, length_of}
 use Rattle.cases.proofs.Same.{same_list, same_list_is, same_judgement, same_judgement_is, same_answer, answers_of, same_answers_is, same_table, same_table_is}
 use Rattle.cases.proofs.Playing.{formed, replay_calls, led}
@@ -94,8 +94,8 @@ all_come = refl
 pub refusals_hold : RefusalsHold
 refusals_hold = all_by comes CallHolds comes_so refusals all_come
 
-limits_lead : list_all leads limits ≡ true
+limits_lead : list_all leads limit_histories ≡ true
 limits_lead = refl
 
 pub limits_reached : LimitsReached
-limits_reached = record { histories = all_by leads SearchCaseHolds holds_so limits limits_lead; bytes_counted = refl; sheet_bytes = refl; body_bytes = refl; key_words = refl }
+limits_reached = record { histories = all_by leads SearchCaseHolds holds_so limit_histories limits_lead; bytes_counted = refl; sheet_bytes = refl; body_bytes = refl; key_words = refl }

@@ -5,7 +5,7 @@ use Rattle.std.specs.List.{list_all}
 use Rattle.rows.specs.Rows.{Meaning}
 use Rattle.rows.specs.Bytes.{Bytes}
 use Rattle.stores.specs.Behaviours.{Behaviour, Decided}
-use Rattle.search.specs.Calls.{Table, Call, Answer, Formed, judged, Does, lost_after}
+use Rattle.search.specs.Calls.{TableData, Call, Answer, Formed, judged, Does, lost_after}
 use Rattle.search.specs.Calls.Call.{declare, post, solve, read, wipe}
 use Rattle.search.specs.Histories.{History, LeadsTo, calls_in}
 use Rattle.search.specs.CallOutcomes.{CallOutcome}
@@ -40,11 +40,11 @@ module _ (store : Behaviour) (d : Decided store) (m : Meaning) (g : store.State)
   abbrev Real : Played store.State → Type 0
   Real p = LeadsTo store m g p.calls p.table p.state p.lost
 
-  does_so : (i : ℕ) (t : Table) (v : store.State) (c : Call) (r : Answer × Table × store.State × ℕ) → comes store d m i t v c (judged m t c) ≡ r
+  does_so : (i : ℕ) (t : TableData) (v : store.State) (c : Call) (r : Answer × TableData × store.State × ℕ) → comes store d m i t v c (judged m t c) ≡ r
       → (D : Does store m t v c r.0 r.1 r.2) × (lost_after D i ≡ r.3)
   does_so i t v c r e =
       let o : CallOutcome store m t v c = (one_outcome store d m t v c).0 in
-      subst (λ (x : Answer × Table × store.State × ℕ). (D : Does store m t v c x.0 x.1 x.2) × (lost_after D i ≡ x.3)) (sym (does_is store d m o.does i) ∙ e) (o.does, refl)
+      subst (λ (x : Answer × TableData × store.State × ℕ). (D : Does store m t v c x.0 x.1 x.2) × (lost_after D i ≡ x.3)) (sym (does_is store d m o.does i) ∙ e) (o.does, refl)
 
   play_real : (c : Call) (p : Played store.State) → Formed c → Real p → Real (play store d m g c p)
   play_real c p f (H, e) =
@@ -72,6 +72,6 @@ led store d g c f a b l k =
     record {
       state = p.state;
       history = subst (LeadsTo store c.bank g c.calls c.table p.state) l
-          (subst₂ (λ (x : List (Call × Answer)) (y : Table). LeadsTo store c.bank g x y p.state p.lost) a b (replay_real store d c.bank g (calls_in c.calls) f));
+          (subst₂ (λ (x : List (Call × Answer)) (y : TableData). LeadsTo store c.bank g x y p.state p.lost) a b (replay_real store d c.bank g (calls_in c.calls) f));
       holds = k;
     }

@@ -10,7 +10,7 @@ use Rattle.rows.specs.Rows.{RowData}
 use Rattle.search.specs.Search.{Level, Place}
 use Rattle.search.specs.Search.Place.{fresh, going}
 use Rattle.rows.specs.Reasons.{Judgement}
-use Rattle.search.specs.Calls.{Table, Call, Answer}
+use Rattle.search.specs.Calls.{TableData, Call, Answer}
 use Rattle.search.specs.Calls.Answer.{done, refused, found, none, stopped, wrote}
 use Rattle.rows.specs.Reasons.Judgement.{passes, declined}
 use Rattle.search.specs.Histories.{calls_in}
@@ -121,21 +121,21 @@ same_place_is Place.none Place.none e = refl
 same_place_is x y e = absurd (both_ways false refl e)
 
 -- what is given of a table, and what the search has come to
-abbrev same_given : Table → Table → Bool
+abbrev same_given : TableData → TableData → Bool
 same_given t u = same t.voices u.voices && same_list same_row t.rows u.rows
 
-abbrev same_counts : Table → Table → Bool
+abbrev same_counts : TableData → TableData → Bool
 same_counts t u = eqb t.opened u.opened && eqb t.exhausted u.exhausted
 
-abbrev pub same_table : Table → Table → Bool
+abbrev pub same_table : TableData → TableData → Bool
 same_table t u = same_given t u && (same_place t.place u.place && same_counts t u)
 
-pub same_table_is : (t u : Table) → same_table t u ≡ true → t ≡ u
+pub same_table_is : (t u : TableData) → same_table t u ≡ true → t ≡ u
 same_table_is t u e =
     let p = and_parts (same_given t u) (same_place t.place u.place && same_counts t u) e in
     let g = and_parts (same t.voices u.voices) (same_list same_row t.rows u.rows) p.0 in
     let q = and_parts (same_place t.place u.place) (same_counts t u) p.1 in
     let n = and_parts (eqb t.opened u.opened) (eqb t.exhausted u.exhausted) q.1 in
-    ap₂ {C = Table} (λ v r. record t { voices = v; rows = r }) (same_is t.voices u.voices g.0) (same_list_is same_row same_row_is t.rows u.rows g.1)
-    ∙ ap₂ {C = Table} (λ p o. record t { voices = u.voices; rows = u.rows; place = p; opened = o }) (same_place_is t.place u.place q.0) (eqb-true t.opened u.opened n.0)
+    ap₂ {C = TableData} (λ v r. record t { voices = v; rows = r }) (same_is t.voices u.voices g.0) (same_list_is same_row same_row_is t.rows u.rows g.1)
+    ∙ ap₂ {C = TableData} (λ p o. record t { voices = u.voices; rows = u.rows; place = p; opened = o }) (same_place_is t.place u.place q.0) (eqb-true t.opened u.opened n.0)
     ∙ ap (λ e. record u { exhausted = e }) (eqb-true t.exhausted u.exhausted n.1)

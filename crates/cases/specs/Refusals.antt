@@ -6,7 +6,7 @@ use Rattle.rows.specs.Bytes.{decode, total_bytes}
 use Rattle.search.specs.Search.{Place}
 use Rattle.search.specs.Search.Place.{fresh, going, found, none}
 use Rattle.rows.specs.Reasons.{Judgement}
-use Rattle.search.specs.Calls.{Table, begun, empty, Call, Answer, judged}
+use Rattle.search.specs.Calls.{TableData, begun, empty, Call, Answer, judged}
 use Rattle.search.specs.Calls.Call.{declare, post, solve, read, wipe}
 use Rattle.search.specs.Calls.Answer.{done, refused}
 use Rattle.rows.specs.Reasons.Judgement.{passes, declined}
@@ -20,7 +20,7 @@ use Rattle.rows.specs.declared.limits.TheConstants.{MOST_SHEET, LONGEST_BODY, LO
 -- the judgement of this call to this table of the bank A; how many bytes these rows have together;
 -- how long these bytes are
 pub data CallCase : Type 0 where
-  judgement_of : Table → Call → Judgement → CallCase
+  judgement_of : TableData → Call → Judgement → CallCase
   bytes_of : List RowData → ℕ → CallCase
   length_of : List ℕ → ℕ → CallCase
 
@@ -33,11 +33,11 @@ CallHolds (length_of bs bytes) = length bs ≡ bytes
 -- ---- tables
 
 -- so many voices {1,2}, and no rows
-abbrev pub with_voices : ℕ → Table
+abbrev pub with_voices : ℕ → TableData
 with_voices n = begun (replicate n 6) []
 
 -- one voice, and so many rows of 6 bytes
-abbrev pub with_short_rows : ℕ → Table
+abbrev pub with_short_rows : ℕ → TableData
 with_short_rows n = begun (6 ∷ []) (replicate n (decode differing (first_differ 1)))
 
 -- 32 voices; 62 rows of 130 bytes, and so many that say that the first k voices differ
@@ -45,11 +45,11 @@ abbrev pub long_rows : ℕ → ℕ → List RowData
 long_rows n k =
     replicate 62 (decode differing (first_differ 32)) ++ replicate n (decode differing (first_differ k))
 
-abbrev pub with_long_rows : ℕ → ℕ → Table
+abbrev pub with_long_rows : ℕ → ℕ → TableData
 with_long_rows n k = begun (replicate 32 6) (long_rows n k)
 
 -- the table of no voices and no rows, with its search at this place and so many nodes opened
-abbrev pub empty_at : Place → ℕ → Table
+abbrev pub empty_at : Place → ℕ → TableData
 empty_at place opened = table_with [] [] place opened 0
 
 -- a search that is not over
@@ -79,7 +79,7 @@ posts n k = replicate n (post (first_differ k), done)
 abbrev pub full_history : List (Call × Answer)
 full_history = posts 1 7 ++ posts 3 8 ++ posts 62 32 ++ declares 32
 
-abbrev pub full_table : Table
+abbrev pub full_table : TableData
 full_table = begun (replicate 32 6) (long_rows 3 8 ++ (decode differing (first_differ 7) ∷ []))
 
 -- ---- the cases
@@ -175,8 +175,8 @@ abbrev pub RefusalsHold : Type 0
 RefusalsHold = All CallHolds refusals
 
 -- histories that reach the limits, and those with one call more
-abbrev pub limits : List SearchCase
-limits =
+abbrev pub limit_histories : List SearchCase
+limit_histories =
     -- 80 voices
     calls_over large (declares 80) (with_voices 80) 0 []
     ∷ calls_over large ((declare 6, refused 11) ∷ declares 80) (with_voices 80) 0 []
@@ -190,7 +190,7 @@ limits =
 
 -- The limits can be reached, and not passed; those that no table reaches, by their numbers.
 pub record LimitsReached : Type 0 where
-  pub histories : All SearchCaseHolds limits
+  pub histories : All SearchCaseHolds limit_histories
   pub bytes_counted : total_bytes full_table.rows ≡ 8192
   pub sheet_bytes : MOST_SHEET ≡ 20000
   pub body_bytes : LONGEST_BODY ≡ 16

@@ -4,7 +4,7 @@ use Rattle.rows.specs.Rows.{Meaning}
 use Rattle.stores.specs.Behaviours.{Behaviour}
 use Rattle.stores.specs.Bare as stores
 use Rattle.stores.specs.ShelfLaws.{shelf}
-use Rattle.search.specs.Calls.{Table, Call, Answer}
+use Rattle.search.specs.Calls.{TableData, Call, Answer}
 use Rattle.search.specs.Histories.{LeadsTo}
 use Rattle.cases.specs.CaseRows.{differing}
 use Rattle.cases.specs.Tables.{CaseStore}
@@ -17,12 +17,12 @@ pub record SearchCase : Type 0 where
   pub store : CaseStore
   pub bank : Meaning
   pub calls : List (Call × Answer)
-  pub table : Table
+  pub table : TableData
   pub lost : ℕ
   pub keys : List (List ℕ)
 
 -- the case of calls over this store, of rows of the bank A
-abbrev pub calls_over : CaseStore → List (Call × Answer) → Table → ℕ → List (List ℕ) → SearchCase
+abbrev pub calls_over : CaseStore → List (Call × Answer) → TableData → ℕ → List (List ℕ) → SearchCase
 calls_over store calls table lost keys =
     record { store = store; bank = differing; calls = calls; table = table; lost = lost; keys = keys }
 

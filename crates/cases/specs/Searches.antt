@@ -4,7 +4,7 @@
 use Rattle.std.specs.Prelude.{ℕ, List, [], ◌∷◌, All}
 use Rattle.search.specs.Search.{Level, Place}
 use Rattle.search.specs.Search.Place.{fresh, going}
-use Rattle.search.specs.Calls.{Table, Call, Answer}
+use Rattle.search.specs.Calls.{TableData, Call, Answer}
 use Rattle.search.specs.Calls.Call.{declare, post, solve, read, wipe}
 use Rattle.search.specs.Calls.Answer.{done, refused, found, none, stopped, wrote}
 use Rattle.cases.specs.CaseRows.{differs_2, differs_3, differs_5}
@@ -18,7 +18,7 @@ abbrev pub three_posted : List (Call × Answer)
 three_posted =
     (post (first_differ 3), done) ∷ (declare 6, done) ∷ (declare 6, done) ∷ (declare 6, done) ∷ []
 
-abbrev pub three_at : Place → ℕ → ℕ → Table
+abbrev pub three_at : Place → ℕ → ℕ → TableData
 three_at place opened exhausted =
     table_with (6 ∷ 6 ∷ 6 ∷ []) (differs_3 ∷ []) place opened exhausted
 
@@ -33,7 +33,7 @@ five_posted =
     (post (first_differ 5), done)
     ∷ (declare 24, done) ∷ (declare 24, done) ∷ (declare 24, done) ∷ (declare 6, done) ∷ (declare 6, done) ∷ []
 
-abbrev pub five_at : Place → ℕ → ℕ → Table
+abbrev pub five_at : Place → ℕ → ℕ → TableData
 five_at place opened exhausted =
     table_with (6 ∷ 6 ∷ 24 ∷ 24 ∷ 24 ∷ []) (differs_5 ∷ []) place opened exhausted
 
@@ -42,7 +42,7 @@ five_at place opened exhausted =
 abbrev pub two_posted : List (Call × Answer)
 two_posted = (post (first_differ 2), done) ∷ (declare 10, done) ∷ (declare 10, done) ∷ []
 
-abbrev pub two_at : Place → ℕ → ℕ → Table
+abbrev pub two_at : Place → ℕ → ℕ → TableData
 two_at place opened exhausted =
     table_with (10 ∷ 10 ∷ []) (differs_2 ∷ []) place opened exhausted
 

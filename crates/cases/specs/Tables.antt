@@ -2,7 +2,7 @@
 use Rattle.std.specs.Prelude.{ℕ, zero, suc, List, [], ◌∷◌}
 use Rattle.rows.specs.Rows.{RowData}
 use Rattle.search.specs.Search.{Place}
-use Rattle.search.specs.Calls.{Table}
+use Rattle.search.specs.Calls.{TableData}
 
 -- ---- stores
 
@@ -31,6 +31,6 @@ first_differ n = 0x41 ∷ n ∷ members_from 0 n
 
 -- with these voices and rows, the place that the search has reached, and the nodes opened and
 -- exhausted
-abbrev pub table_with : List ℕ → List RowData → Place → ℕ → ℕ → Table
+abbrev pub table_with : List ℕ → List RowData → Place → ℕ → ℕ → TableData
 table_with voices rows place opened exhausted =
     record { voices = voices; rows = rows; place = place; opened = opened; exhausted = exhausted }

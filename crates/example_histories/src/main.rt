@@ -10,7 +10,7 @@ ghost use Rattle.stores.specs.ShelfLaws.{shelf};
 ghost use Rattle.histories.specs.CallViews.{calls_of, answers_of, progresses_of};
 ghost use Rattle.histories.specs.Replies.{Played, Agreed};
 
-use histories::call::Call;
+use histories::call::TableCall;
 use histories::play::play_both;
 use histories::reply::Reply;
 use kinds::FourKinds;
@@ -31,7 +31,7 @@ const SMALL: usize = 44;
 fn play_beside_bare(
     heap: Global,
     count: usize,
-    calls: &[Call],
+    calls: &[TableCall],
 ) -> Result<(Vec<Reply>, Vec<Reply>), AllocError>
     ensures over_bare { IfOk result (λ both.
         Played bare four_kinds tt (calls_of calls.now) (answers_of both.0.items)

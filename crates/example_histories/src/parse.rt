@@ -1,6 +1,6 @@
 // Calls read from text.
 use anyhow::anyhow;
-use histories::call::Call;
+use histories::call::TableCall;
 use sets::{ValueSet, single};
 use std::alloc::Global;
 use std::str::SplitWhitespace;
@@ -41,23 +41,23 @@ fn parse_buffer(heap: Global, words: SplitWhitespace<'_>) -> anyhow::Result<Vec<
 }
 
 // A call: its name, and what it is given.
-fn parse_call(heap: Global, text: &str) -> anyhow::Result<Call> {
+fn parse_call(heap: Global, text: &str) -> anyhow::Result<TableCall> {
     let mut words = text.split_whitespace();
     let Some(name) = words.next() else {
         return Err(anyhow!("a call is missing"));
     };
     match name {
-        "declare" => Ok(Call::Declare(parse_set(words)?)),
-        "post" => Ok(Call::Post(parse_bytes(heap, words)?)),
-        "solve" => Ok(Call::Solve(parse_number(words)?)),
-        "read" => Ok(Call::Read(parse_buffer(heap, words)?)),
-        "wipe" => Ok(Call::Wipe),
+        "declare" => Ok(TableCall::Declare(parse_set(words)?)),
+        "post" => Ok(TableCall::Post(parse_bytes(heap, words)?)),
+        "solve" => Ok(TableCall::Solve(parse_number(words)?)),
+        "read" => Ok(TableCall::Read(parse_buffer(heap, words)?)),
+        "wipe" => Ok(TableCall::Wipe),
         _ => Err(anyhow!("no such call")),
     }
 }
 
 // Adds the calls of a line: one call, or `COUNT times` the same.
-fn parse_line(heap: Global, line: &str, calls: &mut Vec<Call>) -> anyhow::Result<()> {
+fn parse_line(heap: Global, line: &str, calls: &mut Vec<TableCall>) -> anyhow::Result<()> {
     let (count, call) = match line.split_once(" times ") {
         Some((number, call)) => (number.parse::<u32>()?, call),
         None => (1, line),
@@ -69,7 +69,7 @@ fn parse_line(heap: Global, line: &str, calls: &mut Vec<Call>) -> anyhow::Result
 }
 
 // The calls of a text. An empty line, and one that begins with #, has none.
-pub(crate) fn parse_calls(heap: Global, text: &str) -> anyhow::Result<Vec<Call>> {
+pub(crate) fn parse_calls(heap: Global, text: &str) -> anyhow::Result<Vec<TableCall>> {
     let mut calls = Vec::new(heap);
     for line in text.lines() {
         if !line.is_empty() && !line.starts_with("#") {

@@ -2,8 +2,8 @@
 use Rattle.std.specs.Prelude.{ℕ, List, ◌++◌, flat_map, codes, decimal, vec_items}
 use Rattle.table.specs.Outcomes.{outcome_name}
 use Rattle.table.specs.Refusals.{refusal_number}
-use Rattle.histories.specs.declared.call.Answer.{Answer}
-use Rattle.histories.specs.declared.call.Answer.TheVariants.{Done, Refused, Found, None, Stopped, Wrote}
+use Rattle.histories.specs.declared.call.TableAnswer.{TableAnswer}
+use Rattle.histories.specs.declared.call.TableAnswer.TheVariants.{Done, Refused, Found, None, Stopped, Wrote}
 use Rattle.histories.specs.declared.reply.Reply.{Reply}
 use Rattle.histories.specs.declared.reply.Progress.{Progress}
 
@@ -12,7 +12,7 @@ abbrev pub spaced : List ℕ → List ℕ
 spaced numbers = flat_map (λ n. codes " " ++ decimal n) numbers
 
 -- as `found 1 3`, or `refused 13`, or `wrote 2: 1 3 0`
-abbrev pub answer_text : Answer → List ℕ
+abbrev pub answer_text : TableAnswer → List ℕ
 answer_text Done = codes "done"
 answer_text (Refused refusal) = codes "refused " ++ decimal (refusal_number refusal)
 answer_text (Found values) = codes "found" ++ spaced (vec_items values)

@@ -2,14 +2,14 @@
 use Rattle.std.specs.Prelude.{◌≡◌, ℕ, ◌<◌, true, ◌↔◌, List, [], ◌∷◌, length, take, reverse, slice_index_or}
 use Rattle.rows.specs.Rows.{Meaning}
 use Rattle.stores.specs.Behaviours.{Behaviour}
-use Rattle.search.specs.Calls.{Table, Call, Answer}
+use Rattle.search.specs.Calls.{TableData, Call, Answer}
 use Rattle.search.specs.Calls.Call.{solve, wipe}
 use Rattle.search.specs.Calls.Answer.{done}
 use Rattle.search.specs.Histories.{History, keys_lost, declared_voices, posted_rows}
 use Rattle.rows.specs.Placed.{SameLeast}
 use Rattle.search.specs.Results.{Invariant, finished}
 use Rattle.table.specs.CallLaws.{AnswerMeans}
-use Rattle.histories.specs.declared.call.Call.{Call as CodeCall}
+use Rattle.histories.specs.declared.call.TableCall.{TableCall}
 use Rattle.histories.specs.declared.reply.Progress.{Progress}
 use Rattle.histories.specs.declared.reply.Reply.{Reply}
 use Rattle.histories.specs.CallViews.{calls_of, answers_of, progresses_of, progress_of}
@@ -30,7 +30,7 @@ first_paired n calls answers = paired (take n calls) (take n answers)
 
 -- the progress of the search after each call of a history, newest first
 abbrev pub progress_after : {b : Behaviour} {m : Meaning} {g : b.State}
-    {h : List (Call × Answer)} {t : Table} {s : b.State} → History b m g h t s → List Progress
+    {h : List (Call × Answer)} {t : TableData} {s : b.State} → History b m g h t s → List Progress
 progress_after (History.made s e) = []
 progress_after (History.then h t u s r c a H f d) = progress_of u ∷ progress_after H
 
@@ -40,7 +40,7 @@ progress_after (History.then h t u s r c a H f d) = progress_of u ∷ progress_a
 -- calls, and what holds then
 pub record Reached (b : Behaviour) (m : Meaning) (given : b.State) (h : List (Call × Answer))
     (shown : List Progress) : Type 0 where
-  pub table : Table
+  pub table : TableData
   pub state : b.State
   pub history : History b m given h table state
   pub counted : progress_after history ≡ reverse shown
@@ -76,11 +76,11 @@ Agreed m calls answers m' calls' answers' = (n n' b b' : ℕ)
 
 -- ---- the same of the code's calls and replies
 
-abbrev pub Replied : (b : Behaviour) → Meaning → b.State → List CodeCall → List Reply → Type 0
+abbrev pub Replied : (b : Behaviour) → Meaning → b.State → List TableCall → List Reply → Type 0
 Replied b m given calls replies =
     Played b m given (calls_of calls) (answers_of replies) (progresses_of replies)
 
-abbrev pub RepliesAgree : Meaning → List CodeCall → List Reply
-    → Meaning → List CodeCall → List Reply → Type 0
+abbrev pub RepliesAgree : Meaning → List TableCall → List Reply
+    → Meaning → List TableCall → List Reply → Type 0
 RepliesAgree m calls replies m' calls' replies' =
     Agreed m (calls_of calls) (answers_of replies) m' (calls_of calls') (answers_of replies')

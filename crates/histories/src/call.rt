@@ -9,7 +9,7 @@ use table::refusal::Refusal;
 
 /// A call of a table, with what it is given.
 #[derive(Debug, PartialEq, Drop)]
-pub enum Call {
+pub enum TableCall {
     /// One voice more, with this opening set.
     Declare(ValueSet),
     /// One row more, from its bytes.
@@ -24,7 +24,7 @@ pub enum Call {
 /// What a call returned. (No `Outcome` of a Solve, since what was found comes with its values
 /// here.)
 #[derive(Debug, PartialEq, Drop)]
-pub enum Answer {
+pub enum TableAnswer {
     /// A Declare, a Post or a Wipe was accepted.
     Done,
     /// The call was refused.
@@ -50,20 +50,20 @@ fn write_bytes<W: fmt::Write>(f: &mut fmt::Formatter<W>, bytes: &[u8]) -> fmt::R
 }
 
 // As `found 1 3`, or `refused 13`, or `wrote 2: 1 3 0`.
-impl fmt::Display for Answer {
+impl fmt::Display for TableAnswer {
     ghost output = { λ answer. Some (answer_text answer) };
 
     fn fmt<W: fmt::Write>(&self, f: &mut fmt::Formatter<W>) -> fmt::Result {
         match self {
-            Answer::Done => f.write_str("done"),
-            Answer::Refused(refusal) => write!(f, "refused {}", refusal.number()),
-            Answer::Found(values) => {
+            TableAnswer::Done => f.write_str("done"),
+            TableAnswer::Refused(refusal) => write!(f, "refused {}", refusal.number()),
+            TableAnswer::Found(values) => {
                 f.write_str("found")?;
                 write_bytes(f, values)
             }
-            Answer::None => f.write_str("none"),
-            Answer::Stopped => f.write_str("stopped"),
-            Answer::Wrote(count, bytes) => {
+            TableAnswer::None => f.write_str("none"),
+            TableAnswer::Stopped => f.write_str("stopped"),
+            TableAnswer::Wrote(count, bytes) => {
                 write!(f, "wrote {count}:")?;
                 write_bytes(f, bytes)
             }

@@ -1,10 +1,10 @@
 // One call performed.
 ghost use Rattle.std.specs.Prelude.{◌≡◌, true, false, is_ok, IfOk, OnErr};
-ghost use Rattle.search.specs.Calls.{Call as CallOf};
+ghost use Rattle.search.specs.Calls.{Call};
 ghost use Rattle.table.specs.Shown.{CallDone, CallExtends, done_answer};
 ghost use Rattle.histories.specs.CallViews.{call_of, answer_of, needs_memory};
 
-use crate::call::{Answer, Call};
+use crate::call::{TableAnswer, TableCall};
 use rows::bank::Bank;
 use rows::limits::MOST_VOICES;
 use std::alloc::{AllocError, Global};
@@ -14,12 +14,12 @@ use table::outcome::Outcome;
 use table::refusal::Refusal;
 
 // The answer of a Declare or a Post.
-fn done_or_refused(res: Result<(), Refusal>) -> Answer
+fn done_or_refused(res: Result<(), Refusal>) -> TableAnswer
     ensures { answer_of result ≡ done_answer res }
 {
     match res {
-        Ok(()) => Answer::Done,
-        Err(refusal) => Answer::Refused(refusal),
+        Ok(()) => TableAnswer::Done,
+        Err(refusal) => TableAnswer::Refused(refusal),
     }
 }
 
@@ -28,22 +28,22 @@ fn perform_solve<B: Bank, S: Store>(
     table: &mut Table<B, S>,
     heap: Global,
     budget: u64,
-) -> Result<Answer, AllocError>
+) -> Result<TableAnswer, AllocError>
     ensures does { IfOk result
-        (λ a. CallDone table.old (CallOf.solve budget) (answer_of a) table.new) }
+        (λ a. CallDone table.old (Call.solve budget) (answer_of a) table.new) }
     ensures history { IfOk result
-        (λ a. CallExtends table.old (CallOf.solve budget) (answer_of a) table.new) }
+        (λ a. CallExtends table.old (Call.solve budget) (answer_of a) table.new) }
     ensures kept { OnErr result (table.new ≡ table.old) }
 {
     let mut values = vec![in heap; 0u8; MOST_VOICES]?;
     match table.solve(budget) {
-        Err(refusal) => Ok(Answer::Refused(refusal)),
-        Ok(Outcome::Stopped) => Ok(Answer::Stopped),
-        Ok(Outcome::None) => Ok(Answer::None),
+        Err(refusal) => Ok(TableAnswer::Refused(refusal)),
+        Ok(Outcome::Stopped) => Ok(TableAnswer::Stopped),
+        Ok(Outcome::None) => Ok(TableAnswer::None),
         Ok(Outcome::Found) => {
             let count = table.read(&mut values).unwrap();
             values.truncate(count);
-            Ok(Answer::Found(values))
+            Ok(TableAnswer::Found(values))
         }
     }
 }
@@ -53,16 +53,16 @@ fn perform_read<B: Bank, S: Store>(
     table: &Table<B, S>,
     heap: Global,
     bytes: &[u8],
-) -> Result<Answer, AllocError>
+) -> Result<TableAnswer, AllocError>
     ensures does { IfOk result
-        (λ a. CallDone table.now (CallOf.read bytes.now) (answer_of a) table.now) }
+        (λ a. CallDone table.now (Call.read bytes.now) (answer_of a) table.now) }
     ensures history { IfOk result
-        (λ a. CallExtends table.now (CallOf.read bytes.now) (answer_of a) table.now) }
+        (λ a. CallExtends table.now (Call.read bytes.now) (answer_of a) table.now) }
 {
     let mut buffer = bytes.to_vec(heap)?;
     match table.read(&mut buffer) {
-        Ok(count) => Ok(Answer::Wrote(count, buffer)),
-        Err(refusal) => Ok(Answer::Refused(refusal)),
+        Ok(count) => Ok(TableAnswer::Wrote(count, buffer)),
+        Err(refusal) => Ok(TableAnswer::Refused(refusal)),
     }
 }
 
@@ -71,8 +71,8 @@ fn perform_read<B: Bank, S: Store>(
 pub fn perform<B: Bank, S: Store>(
     table: &mut Table<B, S>,
     heap: Global,
-    call: &Call,
-) -> Result<Answer, AllocError>
+    call: &TableCall,
+) -> Result<TableAnswer, AllocError>
     ensures does { IfOk result
         (λ a. CallDone table.old (call_of call.now) (answer_of a) table.new) }
     ensures history { IfOk result
@@ -81,13 +81,13 @@ pub fn perform<B: Bank, S: Store>(
     ensures without_memory { needs_memory call.now ≡ false → is_ok result ≡ true }
 {
     match call {
-        Call::Declare(set) => Ok(done_or_refused(table.declare(*set))),
-        Call::Post(bytes) => Ok(done_or_refused(table.post(bytes))),
-        Call::Solve(budget) => perform_solve(table, heap, *budget),
-        Call::Read(bytes) => perform_read(table, heap, bytes),
-        Call::Wipe => {
+        TableCall::Declare(set) => Ok(done_or_refused(table.declare(*set))),
+        TableCall::Post(bytes) => Ok(done_or_refused(table.post(bytes))),
+        TableCall::Solve(budget) => perform_solve(table, heap, *budget),
+        TableCall::Read(bytes) => perform_read(table, heap, bytes),
+        TableCall::Wipe => {
             table.wipe();
-            Ok(Answer::Done)
+            Ok(TableAnswer::Done)
         }
     }
 }

@@ -2,7 +2,7 @@
 ghost use Rattle.std.specs.Prelude.{IfOk};
 ghost use Rattle.histories.specs.Replies.{Replied, RepliesAgree};
 
-use crate::call::Call;
+use crate::call::TableCall;
 use crate::perform::perform;
 use crate::reply::{Progress, Reply};
 use rows::bank::Bank;
@@ -15,7 +15,7 @@ use table::Table;
 pub fn play<B: Bank, S: Store + Drop>(
     heap: Global,
     store: S,
-    calls: &[Call],
+    calls: &[TableCall],
 ) -> Result<Vec<Reply>, AllocError>
     ensures { IfOk result (λ replies.
         Replied S.Store.behaviour B.Bank.meaning (S.Store.state store) calls.now replies.items) }
@@ -36,9 +36,9 @@ pub fn play<B: Bank, S: Store + Drop>(
 pub fn play_both<B: Bank, S: Store + Drop, C: Bank, R: Store + Drop>(
     heap: Global,
     store: S,
-    calls: &[Call],
+    calls: &[TableCall],
     other_store: R,
-    other_calls: &[Call],
+    other_calls: &[TableCall],
 ) -> Result<(Vec<Reply>, Vec<Reply>), AllocError>
     ensures first { IfOk result (λ both.
         Replied S.Store.behaviour B.Bank.meaning (S.Store.state store) calls.now both.0.items) }

@@ -4,7 +4,7 @@ ghost use Rattle.table.specs.Shown.{model};
 ghost use Rattle.histories.specs.CallViews.{progress_of};
 ghost use Rattle.histories.specs.Printed.{progress_text, reply_text};
 
-use crate::call::Answer;
+use crate::call::TableAnswer;
 use rows::bank::Bank;
 use std::fmt;
 use stores::store::Store;
@@ -53,7 +53,7 @@ impl fmt::Display for Progress {
 #[derive(Debug, PartialEq, Drop)]
 pub struct Reply {
     /// The answer to the call.
-    pub answer: Answer,
+    pub answer: TableAnswer,
     /// The progress of the search after it.
     pub progress: Progress,
 }

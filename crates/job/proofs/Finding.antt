@@ -10,7 +10,7 @@ use Rattle.stores.specs.Behaviours.{Behaviour}
 use Rattle.search.specs.Search.{Place, Level}
 use Rattle.search.specs.Search.Place.{fresh, going, found, none}
 use Rattle.rows.specs.Reasons.{Judgement, judge}
-use Rattle.search.specs.Calls.{Table, Answer, Does, is_found, result}
+use Rattle.search.specs.Calls.{TableData, Answer, Does, is_found, result}
 use Rattle.search.specs.Calls.Call.{read}
 use Rattle.search.specs.Calls.Answer.{wrote, refused}
 use Rattle.table.specs.declared.engine.level.End.{End}
@@ -34,7 +34,7 @@ pub found_few : {B S : Type 0} {b : bank.Ghosts B} {s : store.Ghosts S} (t : tab
 found_few t = omega (arith, result_length t.search.end (vec_items t.search.sets) (levels_of t.search), t.search.few, t.search.sets.ok.0)
 
 -- a Read that passes has written the values
-read_passed : {st : Behaviour} {m : Meaning} {t u : Table} {v w : st.State} {buffer : List ℕ} {a : Answer} (k : ℕ) (after : List ℕ) → Does st m t v (read buffer) a u w → a ≡ wrote k after
+read_passed : {st : Behaviour} {m : Meaning} {t u : TableData} {v w : st.State} {buffer : List ℕ} {a : Answer} (k : ℕ) (after : List ℕ) → Does st m t v (read buffer) a u w → a ≡ wrote k after
     → take k after ≡ result t.place
 read_passed k after (Does.declines c n d) e = cc
 read_passed {t = t} {buffer = buffer} k after (Does.reads b p j f) e =
@@ -42,7 +42,7 @@ read_passed {t = t} {buffer = buffer} k after (Does.reads b p j f) e =
     let l : after ≡ p ++ drop (length p) buffer = cc in
     ap₂ (λ (i : ℕ) (x : List ℕ). take i x) n l ∙ take_at p (drop (length p) buffer) (length p) refl ∙ sym (ap result f)
 
-read_count : {st : Behaviour} {m : Meaning} {t u : Table} {v w : st.State} {buffer : List ℕ} {a : Answer} (k : ℕ) (after : List ℕ) → Does st m t v (read buffer) a u w → a ≡ wrote k after
+read_count : {st : Behaviour} {m : Meaning} {t u : TableData} {v w : st.State} {buffer : List ℕ} {a : Answer} (k : ℕ) (after : List ℕ) → Does st m t v (read buffer) a u w → a ≡ wrote k after
     → k ≡ length (result t.place)
 read_count k after (Does.declines c n d) e = cc
 read_count {t = t} k after (Does.reads b p j f) e =
@@ -59,13 +59,13 @@ none_found (found p) buffer n h d =
     let f = ap (λ (b : Bool). judge ((16, b) ∷ [])) (le-ltb (length buffer) (length p) h) in
     cc
 
-read_declined : {st : Behaviour} {m : Meaning} {t u : Table} {v w : st.State} {buffer : List ℕ} {a : Answer} (n : ℕ) → Does st m t v (read buffer) a u w → a ≡ refused n
+read_declined : {st : Behaviour} {m : Meaning} {t u : TableData} {v w : st.State} {buffer : List ℕ} {a : Answer} (n : ℕ) → Does st m t v (read buffer) a u w → a ≡ refused n
     → length (result t.place) ≤ length buffer → [] ≡ result t.place
 read_declined {t = t} {buffer = buffer} n (Does.declines c k d) e h = none_found t.place buffer k h d
 read_declined n (Does.reads b p j f) e h = cc
 
 -- so that as many values as it tells, or none where it is declined, are those that were found
-pub read_found : {st : Behaviour} {m : Meaning} {t u : Table} {v w : st.State} {buffer : List ℕ} (r : Result ℕ Refusal) (count : ℕ) (after : List ℕ) → Does st m t v (read buffer) (read_answer r after) u w
+pub read_found : {st : Behaviour} {m : Meaning} {t u : TableData} {v w : st.State} {buffer : List ℕ} (r : Result ℕ Refusal) (count : ℕ) (after : List ℕ) → Does st m t v (read buffer) (read_answer r after) u w
     → count ≡ result_unwrap_or r 0 → length (result t.place) ≤ length buffer → (count ≡ length (result t.place)) × (take count after ≡ result t.place)
 read_found {t = t} (Ok k) count after d e h = (e ∙ read_count k after d refl, ap (λ (n : ℕ). take n after) e ∙ read_passed k after d refl)
 read_found {t = t} (Err refusal) count after d e h =

@@ -10,7 +10,7 @@ use Rattle.stores.specs.Behaviours.{Behaviour}
 use Rattle.rows.specs.declared.limits.TheConstants.{MOST_BUDGET, MOST_SHEET}
 use Rattle.search.specs.Search.{Place}
 use Rattle.search.specs.Search.Place.{fresh, going, found, none}
-use Rattle.search.specs.Calls.{Table, begun, Answer, judged, over, result, place_answer, Does}
+use Rattle.search.specs.Calls.{TableData, begun, Answer, judged, over, result, place_answer, Does}
 use Rattle.search.specs.Calls.Call.{solve}
 use Rattle.search.specs.Histories.{History, keys_lost, LeadsTo, declared_voices, posted_rows}
 use Rattle.search.specs.Results.{SolveMeans}
@@ -87,24 +87,24 @@ reports_place m voices rows none opened exhausted s h = Reports.none opened exha
 
 module _ (b : Behaviour) (m : Meaning) (L : Laws m) (g : b.State) (sheet : List ℕ) where
   -- the Solve of an accepted sheet
-  solved : (voices : List ℕ) (rows : List RowData) (t u : Table) (v w : b.State) (r : Result Outcome Refusal) (values : List ℕ)
+  solved : (voices : List ℕ) (rows : List RowData) (t u : TableData) (v w : b.State) (r : Result Outcome Refusal) (values : List ℕ)
       → t ≡ begun voices rows → History b m g (posted_after (declared_after [] voices) rows) t v
       → Does b m t v (solve MOST_BUDGET) (solve_answer r values) u w
       → SheetSolved b m g sheet (accepted voices rows) (Ok (result_unwrap_or r Stopped)) u w
   solved voices rows t u v w r values e H D =
       let a = solve_answer r values in
       let calls = posted_after (declared_after [] voices) rows in
-      let j : judged m t (solve MOST_BUDGET) ≡ Judgement.passes = ap (λ (x : Table). judged m x (solve MOST_BUDGET)) e in
+      let j : judged m t (solve MOST_BUDGET) ≡ Judgement.passes = ap (λ (x : TableData). judged m x (solve MOST_BUDGET)) e in
       let k = (solve_keeps_budget b m t v MOST_BUDGET a u w j D).0 in
       let all : History b m g ((solve MOST_BUDGET, a) ∷ calls) u w = History.then calls t u v w (solve MOST_BUDGET) a H tt D in
       let given = tables_given b m g calls t v H in
       let says_so : SolveMeans m (declared_voices calls) (posted_rows m calls) a = answers_hold b m L g [] calls MOST_BUDGET a u w all in
       let means : SolveMeans m voices rows (place_answer u.place) = subst (λ (x : Answer). SolveMeans m voices rows x) k.answer
-      (subst₂ (λ (vs : List ℕ) (rs : List RowData). SolveMeans m vs rs a) (sym given.0 ∙ ap (λ (x : Table). x.voices) e) (sym given.1 ∙ ap (λ (x : Table). x.rows) e) says_so) in
+      (subst₂ (λ (vs : List ℕ) (rs : List RowData). SolveMeans m vs rs a) (sym given.0 ∙ ap (λ (x : TableData). x.voices) e) (sym given.1 ∙ ap (λ (x : TableData). x.rows) e) says_so) in
       let outcome : result_unwrap_or r Stopped ≡ outcome_of u.place = solve_outcome r values ∙ ap answer_outcome k.answer ∙ place_outcome u.place in
       let reported : searched_text (result_unwrap_or r Stopped) u ≡ searched_text (outcome_of u.place) u = ap (λ (o : Outcome). searched_text o u) outcome in
       let spent : over u.place ≡ false → u.opened ≡ 1_000_000 =
-      λ h. let stops = (k.stopped_exactly.0 (k.answer ∙ place_stops u.place h)).0 in omega (arith, stops, ap (λ (x : Table). x.opened) e) in
+      λ h. let stops = (k.stopped_exactly.0 (k.answer ∙ place_stops u.place h)).0 in omega (arith, stops, ap (λ (x : TableData). x.opened) e) in
       record {
         lost = keys_lost all;
         history = subst (λ (x : Answer). LeadsTo b m g ((solve MOST_BUDGET, x) ∷ calls) u w (keys_lost all)) k.answer (all, refl);
@@ -113,7 +113,7 @@ module _ (b : Behaviour) (m : Meaning) (L : Laws m) (g : b.State) (sheet : List 
         promised = subst (Reports m voices rows) (sym reported) (reports_place m voices rows u.place u.opened u.exhausted means spent);
       }
 
-  pub sheet_solved : (o : SheetReading) (t u : Table) (v w : b.State) (r : Result Outcome Refusal) (values : List ℕ)
+  pub sheet_solved : (o : SheetReading) (t u : TableData) (v w : b.State) (r : Result Outcome Refusal) (values : List ℕ)
       → loaded ≡ reading_answer o → t ≡ table_after o → FillHistory b m g [] sheet o t v
       → Does b m t v (solve MOST_BUDGET) (solve_answer r values) u w → SheetSolved b m g sheet o (Ok (result_unwrap_or r Stopped)) u w
   sheet_solved (accepted voices rows) t u v w r values e l H D = solved voices rows t u v w r values l H.0 D

@@ -3,7 +3,7 @@ use Rattle.std.specs.Prelude.{◌≡◌, ℕ, List, [], ◌∷◌, Result}
 use Rattle.rows.specs.Rows.{Meaning}
 use Rattle.stores.specs.Behaviours.{Behaviour}
 use Rattle.rows.specs.declared.limits.TheConstants.{MOST_BUDGET}
-use Rattle.search.specs.Calls.{Table, place_answer}
+use Rattle.search.specs.Calls.{TableData, place_answer}
 use Rattle.search.specs.Calls.Call.{solve}
 use Rattle.search.specs.Histories.{LeadsTo}
 use Rattle.search.specs.Results.{Invariant}
@@ -20,7 +20,7 @@ use Rattle.job.specs.Texts.{report_text, sheet_text}
 -- table was made: of an accepted sheet its Declares and Posts, and a Solve with the largest budget; of a
 -- declined one those of the records before the first fault, and a Wipe.
 abbrev pub JobHistory : (b : Behaviour) (m : Meaning) (given : b.State) (sheet : List ℕ)
-    → SheetReading → Table → b.State → ℕ → Type 0
+    → SheetReading → TableData → b.State → ℕ → Type 0
 JobHistory b m given sheet (accepted voices rows) t s lost =
     let calls = (solve MOST_BUDGET, place_answer t.place) ∷ posted_after (declared_after [] voices) rows in
     LeadsTo b m given calls t s lost
@@ -30,7 +30,7 @@ JobHistory b m given sheet (refused number place layer) t s lost =
 -- A sheet that comes to this was loaded and solved, which led to the table t and the state s: what is
 -- reported of it, and that it is as promised.
 pub record SheetSolved (b : Behaviour) (m : Meaning) (given : b.State) (sheet : List ℕ)
-    (reading : SheetReading) (come_to : Result Outcome SheetRefusal) (t : Table) (s : b.State) : Type 0 where
+    (reading : SheetReading) (come_to : Result Outcome SheetRefusal) (t : TableData) (s : b.State) : Type 0 where
   pub lost : ℕ
   pub history : JobHistory b m given sheet reading t s lost
   pub invariant : Invariant m lost t (b.view s)
@@ -39,8 +39,8 @@ pub record SheetSolved (b : Behaviour) (m : Meaning) (given : b.State) (sheet : 
 
 -- A table that a Load left so with this answer, whatever the sheet and the store that was given, is taken
 -- to the table u and the state r: then the sheet is loaded and solved.
-abbrev pub SolvesLoaded : (b : Behaviour) (m : Meaning) → Result Unit SheetRefusal → Table → b.State
-    → Result Outcome SheetRefusal → Table → b.State → Type 0
+abbrev pub SolvesLoaded : (b : Behaviour) (m : Meaning) → Result Unit SheetRefusal → TableData → b.State
+    → Result Outcome SheetRefusal → TableData → b.State → Type 0
 SolvesLoaded b m answer t s come_to u r =
     (given : b.State) (sheet : List ℕ) → load_answer answer ≡ reading_answer (read_sheet m sheet)
     → LoadLeaves b m sheet given t s → SheetSolved b m given sheet (read_sheet m sheet) come_to u r
@@ -49,7 +49,7 @@ SolvesLoaded b m answer t s come_to u r =
 pub record Planned (b : Behaviour) (m : Meaning) (given : b.State) (sheet text : List ℕ) : Type 0 where
   -- the table and the state that the calls led to, how many keys the store has lost, and what holds
   -- after every history
-  pub table : Table
+  pub table : TableData
   pub state : b.State
   pub lost : ℕ
   pub history : JobHistory b m given sheet (read_sheet m sheet) table state lost

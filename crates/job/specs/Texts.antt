@@ -1,6 +1,6 @@
 -- What Report writes. Lines end in hex 0A; numbers are in decimal.
 use Rattle.std.specs.Prelude.{ℕ, suc, List, [], ◌∷◌, ◌++◌, codes, decimal, Ok, Err, Result}
-use Rattle.search.specs.Calls.{Table, result}
+use Rattle.search.specs.Calls.{TableData, result}
 use Rattle.table.specs.declared.outcome.Outcome.{Outcome}
 use Rattle.table.specs.Outcomes.{outcome_name}
 use Rattle.table.specs.Searches.{outcome_of}
@@ -48,15 +48,15 @@ outcome_text name opened exhausted values =
 -- ---- a table
 
 -- where its search has come to this
-abbrev pub searched_text : Outcome → Table → List ℕ
+abbrev pub searched_text : Outcome → TableData → List ℕ
 searched_text o t = outcome_text (outcome_name o) t.opened t.exhausted (result t.place)
 
 -- after a Load with this answer
-abbrev pub report_text : LoadAnswer → Table → List ℕ
+abbrev pub report_text : LoadAnswer → TableData → List ℕ
 report_text loaded t = searched_text (outcome_of t.place) t
 report_text (declined number place layer) t = refused_line number place layer
 
 -- of a sheet that was declined for this fault, or for which the table's search has come to this
-abbrev pub sheet_text : Result Outcome SheetRefusal → Table → List ℕ
+abbrev pub sheet_text : Result Outcome SheetRefusal → TableData → List ℕ
 sheet_text (Ok outcome) t = searched_text outcome t
 sheet_text (Err fault) t = refused_line (cause_number fault.cause) fault.place (cause_layer fault.cause)

@@ -1,6 +1,6 @@
 -- A store that holds only the newest key.
 use Rattle.std.specs.Prelude.{ℕ, cond, List, [], ◌∷◌, length, take}
-use Rattle.stores.specs.Stores.{View, member, fits_space}
+use Rattle.stores.specs.Stores.{View, is_held, fits_space}
 use Rattle.stores.specs.declared.store.Stored.{Stored}
 use Rattle.stores.specs.declared.store.Stored.TheVariants.{Kept, Lost}
 use Rattle.loose.specs.declared.latest.Latest.{Latest}
@@ -24,8 +24,8 @@ latest_view s = record { held = s.held; space = 0 }
 
 -- A held key changes nothing. Any other key, if it is not too long, replaces the one that is held.
 abbrev pub latest_answer : LatestState → List ℕ → Stored
-latest_answer s k = cond (member k s.held) Kept Lost
+latest_answer s k = cond (is_held k s.held) Kept Lost
 
 abbrev pub latest_after : LatestState → List ℕ → LatestState
 latest_after s k =
-    cond (member k s.held) s (cond (fits_space (length k) s.room) (record { held = k ∷ []; room = s.room }) s)
+    cond (is_held k s.held) s (cond (fits_space (length k) s.room) (record { held = k ∷ []; room = s.room }) s)

@@ -10,7 +10,7 @@ use Rattle.stores.specs.Stores.{View}
 use Rattle.search.proofs.AnyStore.{any}
 use Rattle.search.specs.Search.{Place, Steps}
 use Rattle.rows.specs.Reasons.{Judgement}
-use Rattle.search.specs.Calls.{Table, Call, Answer, Formed, reasons, judged, over, place_answer, result, OpensNodes, Solved, Does}
+use Rattle.search.specs.Calls.{TableData, Call, Answer, Formed, reasons, judged, over, place_answer, result, OpensNodes, Solved, Does}
 use Rattle.search.specs.Histories.{History, keys_lost, declared_voices, posted_rows}
 use Rattle.rows.specs.Placed.{Least, Lawless, SameLeast}
 use Rattle.search.specs.Results.{Invariant, Reads, SolveMeans, finished, Budgeted}
@@ -25,16 +25,16 @@ steps_not_over (Steps.first v w p n k O) = refl
 steps_not_over (Steps.again l ls v w p n k O) = refl
 
 -- what a Solve leaves alone, and what it counts
-pub record Unaltered (n : ℕ) (t u : Table) : Type 0 where
+pub record Unaltered (n : ℕ) (t u : TableData) : Type 0 where
   pub voices : u.voices ≡ t.voices
   pub rows : u.rows ≡ t.rows
   pub opened : u.opened ≡ t.opened + n
 
-pub goes_kept : {m : Meaning} {n : ℕ} {t : Table} {v : View} {u : Table} {w : View} {k : ℕ} → OpensNodes any m n t v u w k → Unaltered n t u
+pub goes_kept : {m : Meaning} {n : ℕ} {t : TableData} {v : View} {u : TableData} {w : View} {k : ℕ} → OpensNodes any m n t v u w k → Unaltered n t u
 goes_kept (OpensNodes.stay t v) = record { voices = refl; rows = refl; opened = omega arith }
 goes_kept (OpensNodes.more b t u v w x p n k j S G) = let r = goes_kept G in record { voices = r.voices; rows = r.rows; opened = omega (arith, r.opened) }
 
-goes_over : {m : Meaning} {n : ℕ} {t : Table} {v : View} {u : Table} {w : View} {k : ℕ} → OpensNodes any m n t v u w k → over t.place ≡ true → (u ≡ t) × (w ≡ v)
+goes_over : {m : Meaning} {n : ℕ} {t : TableData} {v : View} {u : TableData} {w : View} {k : ℕ} → OpensNodes any m n t v u w k → over t.place ≡ true → (u ≡ t) × (w ≡ v)
 goes_over (OpensNodes.stay t v) o = (refl, refl)
 goes_over (OpensNodes.more b t u v w x p n k j S G) o = absurd (both_ways (over t.place) (steps_not_over S) o)
 
@@ -58,7 +58,7 @@ open_stops (Place.going l ls) e = refl
 open_stops (Place.found p) e = absurd (both_ways true e refl)
 open_stops Place.none e = absurd (both_ways true e refl)
 
-solved : (m : Meaning) (t : Table) (v : View) (b : ℕ) (u : Table) (w : View) (k : ℕ) → Solved any m b t v u w k → Budgeted t b (place_answer u.place) u
+solved : (m : Meaning) (t : TableData) (v : View) (b : ℕ) (u : TableData) (w : View) (k : ℕ) → Solved any m b t v u w k → Budgeted t b (place_answer u.place) u
 solved m t v b u w lost S =
     let k = goes_kept S.goes in
     record {
@@ -76,21 +76,21 @@ solved m t v b u w lost S =
       repeats = λ o. (goes_over S.goes o).0;
     }
 
-pub solve_keeps_budget : (m : Meaning) (t : Table) (v : View) (b : ℕ) (a : Answer) (u : Table) (w : View)
+pub solve_keeps_budget : (m : Meaning) (t : TableData) (v : View) (b : ℕ) (a : Answer) (u : TableData) (w : View)
     → judged m t (solve b) ≡ Judgement.passes → Does any m t v (solve b) a u w → Budgeted t b a u
 solve_keeps_budget m t v b a u w j (Does.declines c n d) = absurd (not_both d j)
 solve_keeps_budget m t v b a u w j (Does.solves b' u' w' k _ S) = solved m t v b u w k S
 
 -- ---- the voices and rows of a history
 
-refused_voices : (m : Meaning) (t : Table) (h : List (Call × Answer)) (c : Call) (n : ℕ) → judged m t c ≡ Judgement.declined n → declared_voices ((c, Answer.refused n) ∷ h) ≡ declared_voices h
+refused_voices : (m : Meaning) (t : TableData) (h : List (Call × Answer)) (c : Call) (n : ℕ) → judged m t c ≡ Judgement.declined n → declared_voices ((c, Answer.refused n) ∷ h) ≡ declared_voices h
 refused_voices m t h (declare s) n j = refl
 refused_voices m t h (post bs) n j = refl
 refused_voices m t h (solve b) n j = refl
 refused_voices m t h (read b) n j = refl
 refused_voices m t h wipe n j = absurd (not_both j refl)
 
-refused_rows : (m : Meaning) (t : Table) (h : List (Call × Answer)) (c : Call) (n : ℕ) → judged m t c ≡ Judgement.declined n → posted_rows m ((c, Answer.refused n) ∷ h) ≡ posted_rows m h
+refused_rows : (m : Meaning) (t : TableData) (h : List (Call × Answer)) (c : Call) (n : ℕ) → judged m t c ≡ Judgement.declined n → posted_rows m ((c, Answer.refused n) ∷ h) ≡ posted_rows m h
 refused_rows m t h (declare s) n j = refl
 refused_rows m t h (post bs) n j = refl
 refused_rows m t h (solve b) n j = refl
@@ -98,10 +98,10 @@ refused_rows m t h (read b) n j = refl
 refused_rows m t h wipe n j = absurd (not_both j refl)
 
 -- they are the table's
-abbrev Given : Meaning → List (Call × Answer) → Table → Type 0
+abbrev Given : Meaning → List (Call × Answer) → TableData → Type 0
 Given m h t = (declared_voices h ≡ t.voices) × (posted_rows m h ≡ t.rows)
 
-given_after : {m : Meaning} {t : Table} {v : View} {c : Call} {a : Answer} {u : Table} {w : View} (h : List (Call × Answer)) → Does any m t v c a u w → Given m h t → Given m ((c, a) ∷ h) u
+given_after : {m : Meaning} {t : TableData} {v : View} {c : Call} {a : Answer} {u : TableData} {w : View} (h : List (Call × Answer)) → Does any m t v c a u w → Given m h t → Given m ((c, a) ∷ h) u
 given_after {m} {t} h (Does.declines c n j) g = (refused_voices m t h c n j ∙ g.0, refused_rows m t h c n j ∙ g.1)
 given_after h (Does.declares s w j e) g = (ap (λ (x : List ℕ). x ++ (s ∷ [])) g.0, g.1)
 given_after {m} h (Does.posts bs w j e) g = (g.0, ap (λ (x : List RowData). x ++ (decode m bs ∷ [])) g.1)
@@ -109,45 +109,45 @@ given_after h (Does.wipes w e) g = (refl, refl)
 given_after h (Does.solves b u w k j S) g = let k = goes_kept S.goes in (g.0 ∙ sym k.voices, g.1 ∙ sym k.rows)
 given_after h (Does.reads buffer p j e) g = g
 
-given : {m : Meaning} {g : View} {h : List (Call × Answer)} {t : Table} {v : View} → History any m g h t v → Given m h t
+given : {m : Meaning} {g : View} {h : List (Call × Answer)} {t : TableData} {v : View} → History any m g h t v → Given m h t
 given (History.made v e) = (refl, refl)
 given (History.then h t u v w c a H o d) = given_after h d (given H)
 
 -- ---- answers
 
 -- the last call of a history
-abbrev Last : Meaning → View → List (Call × Answer) → Table → View → Type 0
+abbrev Last : Meaning → View → List (Call × Answer) → TableData → View → Type 0
 Last m g [] u w = Unit {0}
-Last m g (x ∷ h) u w = (t : Table) × (v : View) × History any m g h t v × Does any m t v x.0 x.1 u w × Formed x.0
+Last m g (x ∷ h) u w = (t : TableData) × (v : View) × History any m g h t v × Does any m t v x.0 x.1 u w × Formed x.0
 
-last : {m : Meaning} {h : List (Call × Answer)} {t : Table} {v : View} → {g : View} → History any m g h t v → Last m g h t v
+last : {m : Meaning} {h : List (Call × Answer)} {t : TableData} {v : View} → {g : View} → History any m g h t v → Last m g h t v
 last (History.made v e) = tt
 last (History.then h t u v w c a H o d) = (t, v, H, d, o)
 
-says_of : (m : Meaning) (lost : ℕ) (t : Table) (v : View) → Invariant m lost t v → (x : Place) → t.place ≡ x → SolveMeans m t.voices t.rows (place_answer x)
+says_of : (m : Meaning) (lost : ℕ) (t : TableData) (v : View) → Invariant m lost t v → (x : Place) → t.place ≡ x → SolveMeans m t.voices t.rows (place_answer x)
 says_of m lost t v s Place.fresh e = tt
 says_of m lost t v s (Place.going l ls) e = tt
 says_of m lost t v s (Place.found p) e = s.found_least p e
 says_of m lost t v s Place.none e = s.none_lawful e
 
-says_after : (m : Meaning) (lost : ℕ) (t : Table) (v : View) (b : ℕ) (a : Answer) (u : Table) (w : View) → Does any m t v (solve b) a u w → Invariant m lost u w
+says_after : (m : Meaning) (lost : ℕ) (t : TableData) (v : View) (b : ℕ) (a : Answer) (u : TableData) (w : View) → Does any m t v (solve b) a u w → Invariant m lost u w
     → SolveMeans m u.voices u.rows a
 says_after m lost t v b a u w (Does.declines c n d) s = tt
 says_after m lost t v b a u w (Does.solves b' u' w' k _ S) s = says_of m lost u w s u.place refl
 
-answer_holds : (m : Meaning) → Laws m → (h : List (Call × Answer)) (b : ℕ) (a : Answer) (t : Table) (v : View)
+answer_holds : (m : Meaning) → Laws m → (h : List (Call × Answer)) (b : ℕ) (a : Answer) (t : TableData) (v : View)
     → {g : View} → History any m g ((solve b, a) ∷ h) t v → SolveMeans m (declared_voices h) (posted_rows m h) a
 answer_holds m L h b a t v H =
     let g = given H in
     let (x, y, _, d, _) = last H in
     subst₂ (λ (vs : List ℕ) (rs : List RowData). SolveMeans m vs rs a) (sym g.0) (sym g.1) (says_after m (keys_lost H) x y b a t v d (invariant_holds m L ((solve b, a) ∷ h) t v H))
 
-pub answers_hold : (m : Meaning) → Laws m → (later before : List (Call × Answer)) (b : ℕ) (a : Answer) (t : Table) (v : View)
+pub answers_hold : (m : Meaning) → Laws m → (later before : List (Call × Answer)) (b : ℕ) (a : Answer) (t : TableData) (v : View)
     → {g : View} → History any m g (later ++ ((solve b, a) ∷ before)) t v → SolveMeans m (declared_voices before) (posted_rows m before) a
 answers_hold m L [] before b a t v H = answer_holds m L before b a t v H
 answers_hold m L (x ∷ later) before b a t v H = let (t', v', G, _, _) = last H in answers_hold m L later before b a t' v' G
 
-pub tables_given : (m : Meaning) (h : List (Call × Answer)) (t : Table) (v : View) → {g : View} → History any m g h t v → (t.voices ≡ declared_voices h) × (t.rows ≡ posted_rows m h)
+pub tables_given : (m : Meaning) (h : List (Call × Answer)) (t : TableData) (v : View) → {g : View} → History any m g h t v → (t.voices ≡ declared_voices h) × (t.rows ≡ posted_rows m h)
 tables_given m h t v H = let g = given H in (sym g.0, sym g.1)
 
 -- ---- the values that Read wrote
@@ -167,7 +167,7 @@ bytes_beyond p buffer k a b i l =
     ]
 
 -- what a Read that wrote was given and answered
-abbrev Wrote : Meaning → Table → View → List ℕ → Answer → Type 0
+abbrev Wrote : Meaning → TableData → View → List ℕ → Answer → Type 0
 Wrote m t v buffer Answer.done = Unit {0}
 Wrote m t v buffer (Answer.refused n) = Unit {0}
 Wrote m t v buffer (Answer.found p) = Unit {0}
@@ -175,13 +175,13 @@ Wrote m t v buffer Answer.none = Unit {0}
 Wrote m t v buffer Answer.stopped = Unit {0}
 Wrote m t v buffer (Answer.wrote n b) = (p : List ℕ) × (t.place ≡ Place.found p) × (length p ≤ length buffer) × (n ≡ length p) × (b ≡ p ++ drop (length p) buffer)
 
-wrote : (m : Meaning) (t : Table) (v : View) (buffer : List ℕ) (a : Answer) (u : Table) (w : View) → Does any m t v (read buffer) a u w → Wrote m t v buffer a × (u ≡ t)
+wrote : (m : Meaning) (t : TableData) (v : View) (buffer : List ℕ) (a : Answer) (u : TableData) (w : View) → Does any m t v (read buffer) a u w → Wrote m t v buffer a × (u ≡ t)
 wrote m t v buffer a u w (Does.declines c n d) = (tt, refl)
 wrote m t v buffer a u w (Does.reads b p j e) =
     let f = ltb-false (length buffer) (length (result t.place)) (none_fits (reasons m t (read buffer)) j).1.0 in
     ((p, e, subst (λ (x : Place). length (result x) ≤ length buffer) e f, refl, refl), refl)
 
-read_holds : (m : Meaning) → Laws m → (h : List (Call × Answer)) (buffer : List ℕ) (n : ℕ) (b : List ℕ) (t : Table) (v : View)
+read_holds : (m : Meaning) → Laws m → (h : List (Call × Answer)) (buffer : List ℕ) (n : ℕ) (b : List ℕ) (t : TableData) (v : View)
     → {g : View} → History any m g ((read buffer, Answer.wrote n b) ∷ h) t v → Reads m (declared_voices h) (posted_rows m h) buffer n b
 read_holds m L h buffer n b t v H =
     let g = given H in
@@ -203,7 +203,7 @@ read_holds m L h buffer n b t v H =
       bytes = subst Bytes (sym eb) (bytes_beyond p buffer k (value_bytes p x.voices f.proper le.lawful.within) fo);
     })
 
-pub reads_hold : (m : Meaning) → Laws m → (later before : List (Call × Answer)) (buffer : List ℕ) (n : ℕ) (b : List ℕ) (t : Table) (v : View)
+pub reads_hold : (m : Meaning) → Laws m → (later before : List (Call × Answer)) (buffer : List ℕ) (n : ℕ) (b : List ℕ) (t : TableData) (v : View)
     → {g : View} → History any m g (later ++ ((read buffer, Answer.wrote n b) ∷ before)) t v → Reads m (declared_voices before) (posted_rows m before) buffer n b
 reads_hold m L [] before buffer n b t v H = read_holds m L before buffer n b t v H
 reads_hold m L (x ∷ later) before buffer n b t v H = let (t', v', G, _, _) = last H in reads_hold m L later before buffer n b t' v' G
@@ -253,7 +253,7 @@ result_none m vs rs Answer.none f x l = refl
 result_none m vs rs Answer.stopped f x l = absurd (both_ways false refl f)
 result_none m vs rs (Answer.wrote n b) f x l = absurd x
 
-pub results_agree : (m m' : Meaning) → Laws m → Laws m' → (later later' h h' : List (Call × Answer)) (b b' : ℕ) (a a' : Answer) (t t' : Table) (v v' : View)
+pub results_agree : (m m' : Meaning) → Laws m → Laws m' → (later later' h h' : List (Call × Answer)) (b b' : ℕ) (a a' : Answer) (t t' : TableData) (v v' : View)
     → {g : View} → History any m g (later ++ ((solve b, a) ∷ h)) t v → {g' : View} → History any m' g' (later' ++ ((solve b', a') ∷ h')) t' v' → finished a ≡ true → finished a' ≡ true
     → (a ≡ a') ↔ SameLeast m (declared_voices h) (posted_rows m h) m' (declared_voices h') (posted_rows m' h')
 results_agree m m' L L' later later' h h' b b' a a' t t' v v' H H' f f' =

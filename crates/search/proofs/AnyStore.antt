@@ -7,7 +7,7 @@ use Rattle.stores.specs.Stores.{View, Emptied, Keeps}
 use Rattle.stores.specs.Behaviours.{Behaviour}
 use Rattle.stores.specs.declared.store.Stored.TheVariants.{Kept, Lost}
 use Rattle.search.specs.Search.{Level, Place, BacksUp, Opens, Steps}
-use Rattle.search.specs.Calls.{Table, Call, Answer, over, OpensNodes, Does, lost_after}
+use Rattle.search.specs.Calls.{TableData, Call, Answer, over, OpensNodes, Does, lost_after}
 use Rattle.search.specs.Histories.{History, keys_lost}
 use Rattle.search.specs.CallOutcomes.{BacksNew, OpensNew, StepsNew}
 
@@ -46,11 +46,11 @@ module _ (b : Behaviour) (m : Meaning) where
   steps_any (Steps.first s t p n k O) = Steps.first (b.view s) (b.view t) p n k (opens_any O)
   steps_any (Steps.again l ls s t p n k O) = Steps.again l ls (b.view s) (b.view t) p n k (opens_any O)
 
-  pub goes_any : {n : ℕ} {t : Table} {s : b.State} {u : Table} {r : b.State} {lost : ℕ} → OpensNodes b m n t s u r lost → OpensNodes any m n t (b.view s) u (b.view r) lost
+  pub goes_any : {n : ℕ} {t : TableData} {s : b.State} {u : TableData} {r : b.State} {lost : ℕ} → OpensNodes b m n t s u r lost → OpensNodes any m n t (b.view s) u (b.view r) lost
   goes_any (OpensNodes.stay t s) = OpensNodes.stay t (b.view s)
   goes_any (OpensNodes.more i t u s r x p n k lost S G) = OpensNodes.more i t u (b.view s) (b.view r) (b.view x) p n k lost (steps_any S) (goes_any G)
 
-  pub does_any : {t : Table} {s : b.State} {c : Call} {a : Answer} {u : Table} {r : b.State} → Does b m t s c a u r → Does any m t (b.view s) c a u (b.view r)
+  pub does_any : {t : TableData} {s : b.State} {c : Call} {a : Answer} {u : TableData} {r : b.State} → Does b m t s c a u r → Does any m t (b.view s) c a u (b.view r)
   does_any (Does.declines c n j) = Does.declines c n j
   does_any {s = s} (Does.declares set r j e) = Does.declares set (b.view r) j (b.empties_lawfully s r e)
   does_any {s = s} (Does.posts bs r j e) = Does.posts bs (b.view r) j (b.empties_lawfully s r e)
@@ -59,12 +59,12 @@ module _ (b : Behaviour) (m : Meaning) where
       Does.solves budget u (b.view r) lost j (record { count = S.count; inside = S.inside; goes = goes_any S.goes; ends = S.ends })
   does_any (Does.reads buffer p j e) = Does.reads buffer p j e
 
-  pub history_any : {g : b.State} {h : List (Call × Answer)} {t : Table} {s : b.State} → History b m g h t s → History any m (b.view g) h t (b.view s)
+  pub history_any : {g : b.State} {h : List (Call × Answer)} {t : TableData} {s : b.State} → History b m g h t s → History any m (b.view g) h t (b.view s)
   history_any {g} (History.made s e) = History.made (b.view s) (b.empties_lawfully g s e)
   history_any (History.then h t u s r c a H f D) = History.then h t u (b.view s) (b.view r) c a (history_any H) f (does_any D)
 
   -- and as many keys are lost
-  pub after_any : {t : Table} {s : b.State} {c : Call} {a : Answer} {u : Table} {r : b.State} (D : Does b m t s c a u r) (n : ℕ) → lost_after (does_any D) n ≡ lost_after D n
+  pub after_any : {t : TableData} {s : b.State} {c : Call} {a : Answer} {u : TableData} {r : b.State} (D : Does b m t s c a u r) (n : ℕ) → lost_after (does_any D) n ≡ lost_after D n
   unfolding does_any
   after_any (Does.declines c n j) k = refl
   after_any (Does.declares set r j e) k = refl
@@ -73,7 +73,7 @@ module _ (b : Behaviour) (m : Meaning) where
   after_any (Does.solves budget u r lost j S) k = refl
   after_any (Does.reads buffer p j e) k = refl
 
-  pub lost_any : {g : b.State} {h : List (Call × Answer)} {t : Table} {s : b.State} (H : History b m g h t s) → keys_lost (history_any H) ≡ keys_lost H
+  pub lost_any : {g : b.State} {h : List (Call × Answer)} {t : TableData} {s : b.State} (H : History b m g h t s) → keys_lost (history_any H) ≡ keys_lost H
   unfolding history_any
   lost_any (History.made s e) = refl
   lost_any (History.then h t u s r c a H f D) = after_any D (keys_lost (history_any H)) ∙ ap (lost_after D) (lost_any H)
@@ -105,6 +105,6 @@ module _ (b : Behaviour) (m : Meaning) where
   steps_open (Steps.first s t p n k O) = refl
   steps_open (Steps.again l ls s t p n k O) = refl
 
-  pub goes_over : {n : ℕ} {t : Table} {s : b.State} {u : Table} {r : b.State} {lost : ℕ} → OpensNodes b m n t s u r lost → over t.place ≡ true → r ≡ s
+  pub goes_over : {n : ℕ} {t : TableData} {s : b.State} {u : TableData} {r : b.State} {lost : ℕ} → OpensNodes b m n t s u r lost → over t.place ≡ true → r ≡ s
   goes_over (OpensNodes.stay t s) o = refl
   goes_over (OpensNodes.more i t u s r x p n k lost S G) o = absurd (both_ways (over t.place) (steps_open S) o)

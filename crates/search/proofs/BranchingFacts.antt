@@ -7,11 +7,11 @@ use Rattle.sets.specs.Placings.{some_empty, all_fixed, Proper, values}
 use Rattle.rows.specs.Rows.{RowData, Meaning}
 use Rattle.rows.specs.Laws.{Laws}
 use Rattle.stores.specs.Keys.{key}
-use Rattle.stores.specs.Stores.{member, View}
+use Rattle.stores.specs.Stores.{is_held, View}
 use Rattle.search.proofs.AnyStore.{any}
 use Rattle.search.specs.Search.{Level, Place, Node, Lowest, below, first_open, level_of, node, child, taken, BacksUp, Opens, Steps}
 use Rattle.search.specs.Propagation.{propagated}
-use Rattle.search.specs.Calls.{Table, Call, Answer, OpensNodes, Does}
+use Rattle.search.specs.Calls.{TableData, Call, Answer, OpensNodes, Does}
 use Rattle.search.specs.Histories.{History, keys_lost}
 use Rattle.search.specs.Branching.{AboveNewest, Ascending, NodeLowest, TableLowest, Rising}
 use Rattle.rows.specs.Placed.{AllAccepted}
@@ -37,7 +37,7 @@ module _ (m : Meaning) (rows : List RowData) (v : View) (b : List ℕ) where
             elim y [
               | true ↦ solution (values b)
               | false ↦
-                  elim (member (key m rows b) v.held) [ true ↦ hit | false ↦ branch (level_of k b) ]
+                  elim (is_held (key m rows b) v.held) [ true ↦ hit | false ↦ branch (level_of k b) ]
             ]
       ]
 
@@ -53,7 +53,7 @@ module _ (m : Meaning) (rows : List RowData) (v : View) (b : List ℕ) where
           | inl a ↦ node_at k false true e (fixed_drop k b (f e) ∙ a) ∙ sym (node_at 0 false true e a)
           | inr a ↦
               node_at k false false e (fixed_drop k b (f e) ∙ a)
-              ∙ ap (λ (i : ℕ). elim (member (key m rows b) v.held) [ true ↦ hit | false ↦ branch (record { sets = b; voice = i; left = get_or b i 0 }) ]) (first_same k b (f e) a)
+              ∙ ap (λ (i : ℕ). elim (is_held (key m rows b) v.held) [ true ↦ hit | false ↦ branch (record { sets = b; voice = i; left = get_or b i 0 }) ]) (first_same k b (f e) a)
               ∙ sym (node_at 0 false false e a)
         ]
       ]
@@ -108,7 +108,7 @@ module _ (m : Meaning) (L : Laws m) (rows : List RowData) (voices : List ℕ) (o
       at : (l : Level) (ls : List Level) → x ≡ going l ls → Stage m rows voices (going l ls) v o e
       at l ls h = subst (λ (y : Place). Stage m rows voices y v o e) h st
 
-fit_looks : (m : Meaning) → Laws m → (lost : ℕ) (t : Table) (v : View) → Fit m lost t v → TableLowest m t v
+fit_looks : (m : Meaning) → Laws m → (lost : ℕ) (t : TableData) (v : View) → Fit m lost t v → TableLowest m t v
 fit_looks m L lost t v f =
     let x = looks m L t.rows t.voices f.okay f.proper t.place v t.opened t.exhausted f.stage in
     record {
@@ -117,8 +117,8 @@ fit_looks m L lost t v f =
       next = x.1;
     }
 
-pub branches_lowest : (m : Meaning) → Laws m → (h : List (Call × Answer)) (t : Table) (v : View) → {g : View} → History any m g h t v
-    → (n k : ℕ) (u : Table) (w : View) → OpensNodes any m n t v u w k → TableLowest m u w
+pub branches_lowest : (m : Meaning) → Laws m → (h : List (Call × Answer)) (t : TableData) (v : View) → {g : View} → History any m g h t v
+    → (n k : ℕ) (u : TableData) (w : View) → OpensNodes any m n t v u w k → TableLowest m u w
 branches_lowest m L h t v H n k u w G = fit_looks m L (keys_lost H + k) u w (goes m L G (keys_lost H) (fit m L H))
 
 -- ---- with no law of the bank
@@ -153,11 +153,11 @@ rise_steps : {m : Meaning} {voices : List ℕ} {rows : List RowData} {p : Place}
 rise_steps (Steps.first v w p n k O) r = rise_opens O tt
 rise_steps (Steps.again l ls v w p n k O) r = rise_opens O r
 
-rise_goes : {m : Meaning} {n : ℕ} {t : Table} {v : View} {u : Table} {w : View} {k : ℕ} → OpensNodes any m n t v u w k → PlaceRises t.place → PlaceRises u.place
+rise_goes : {m : Meaning} {n : ℕ} {t : TableData} {v : View} {u : TableData} {w : View} {k : ℕ} → OpensNodes any m n t v u w k → PlaceRises t.place → PlaceRises u.place
 rise_goes (OpensNodes.stay t v) r = r
 rise_goes (OpensNodes.more b t u v w x p n k j S G) r = rise_goes G (rise_steps S r)
 
-rise_does : {m : Meaning} {t : Table} {v : View} {c : Call} {a : Answer} {u : Table} {w : View} → Does any m t v c a u w → PlaceRises t.place → PlaceRises u.place
+rise_does : {m : Meaning} {t : TableData} {v : View} {c : Call} {a : Answer} {u : TableData} {w : View} → Does any m t v c a u w → PlaceRises t.place → PlaceRises u.place
 rise_does (Does.declines c n j) r = r
 rise_does (Does.declares s w j e) r = tt
 rise_does (Does.posts bs w j e) r = tt
@@ -165,10 +165,10 @@ rise_does (Does.wipes w e) r = tt
 rise_does (Does.solves b u w k j S) r = rise_goes S.goes r
 rise_does (Does.reads buffer p j e) r = r
 
-rise_history : {m : Meaning} {g : View} {h : List (Call × Answer)} {t : Table} {v : View} → History any m g h t v → PlaceRises t.place
+rise_history : {m : Meaning} {g : View} {h : List (Call × Answer)} {t : TableData} {v : View} → History any m g h t v → PlaceRises t.place
 rise_history (History.made v e) = tt
 rise_history (History.then h t u v w c a H o d) = rise_does d (rise_history H)
 
-pub levels_rise : (m : Meaning) (h : List (Call × Answer)) (t : Table) (v : View) → {g : View} → History any m g h t v
-    → (n k : ℕ) (u : Table) (w : View) → OpensNodes any m n t v u w k → (l : Level) (ls : List Level) → u.place ≡ going l ls → Rising (l ∷ ls)
+pub levels_rise : (m : Meaning) (h : List (Call × Answer)) (t : TableData) (v : View) → {g : View} → History any m g h t v
+    → (n k : ℕ) (u : TableData) (w : View) → OpensNodes any m n t v u w k → (l : Level) (ls : List Level) → u.place ≡ going l ls → Rising (l ∷ ls)
 levels_rise m h t v H n k u w G l ls e = subst PlaceRises e (rise_goes G (rise_history H))

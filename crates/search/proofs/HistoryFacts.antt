@@ -8,11 +8,11 @@ use Rattle.rows.specs.Rows.{RowData, Meaning, Verdict}
 use Rattle.rows.specs.Laws.{Laws, Accepted}
 use Rattle.rows.specs.Bytes.{Bytes, Layout, head_length, lettered, counted, right_length, marked, decode}
 use Rattle.rows.proofs.Layouts.{bytes_both_ways}
-use Rattle.stores.specs.Stores.{member, View, distinct_keys}
+use Rattle.stores.specs.Stores.{is_held, View, distinct_keys}
 use Rattle.search.proofs.AnyStore.{any}
 use Rattle.search.specs.Search.{Place}
 use Rattle.rows.specs.Reasons.{Judgement, judge, declined_under}
-use Rattle.search.specs.Calls.{Table, Call, Answer, Formed, reasons, judged, OpensNodes, Does, lost_after, empty}
+use Rattle.search.specs.Calls.{TableData, Call, Answer, Formed, reasons, judged, OpensNodes, Does, lost_after, empty}
 use Rattle.search.specs.Histories.{History, keys_lost}
 use Rattle.search.specs.Results.{Invariant}
 use Rattle.rows.specs.Placed.{AllAccepted}
@@ -21,7 +21,7 @@ use Rattle.search.specs.Calls.Call.{declare, post}
 use Rattle.search.proofs.NodeFacts.{Stage, SoundStore, steps}
 
 -- the invariant of a table and its store, where so many keys were lost
-pub record Fit (m : Meaning) (lost : ℕ) (t : Table) (v : View) : Type 0 where
+pub record Fit (m : Meaning) (lost : ℕ) (t : TableData) (v : View) : Type 0 where
   pub proper : Proper t.voices
   pub okay : AllAccepted m t.rows (length t.voices)
   pub stage : Stage m t.rows t.voices t.place v t.opened t.exhausted
@@ -29,7 +29,7 @@ pub record Fit (m : Meaning) (lost : ℕ) (t : Table) (v : View) : Type 0 where
 
 empty_store : (m : Meaning) (rows : List RowData) (n : ℕ) (v : View) → v.held ≡ [] → SoundStore m rows n v 0 0
 empty_store m rows n v e = record {
-  sound = λ x z. absurd (both_ways false refl (subst (λ (h : List (List ℕ)). member x h ≡ true) e z));
+  sound = λ x z. absurd (both_ways false refl (subst (λ (h : List (List ℕ)). is_held x h ≡ true) e z));
   count = λ _. ap length e;
   distinct = ap distinct_keys e;
 }
@@ -73,10 +73,10 @@ verdict (Ok x) a b = refl
 verdict (Err Undeclared) a b = absurd (both_ways true a refl)
 verdict (Err RuleBroken) a b = absurd (both_ways true b refl)
 
-pub declared_set : (m : Meaning) (t : Table) (s : ℕ) → judged m t (declare s) ≡ Judgement.passes → 0 < s
+pub declared_set : (m : Meaning) (t : TableData) (s : ℕ) → judged m t (declare s) ≡ Judgement.passes → 0 < s
 declared_set m t s j = omega (arith, eqb-false s 0 (none_fits (reasons m t (declare s)) j).0)
 
-pub layout : (m : Meaning) (t : Table) (bs : List ℕ) → judged m t (post bs) ≡ Judgement.passes → Layout m bs
+pub layout : (m : Meaning) (t : TableData) (bs : List ℕ) → judged m t (post bs) ≡ Judgement.passes → Layout m bs
 layout m t bs j =
     let f = none_fits (reasons m t (post bs)) j in
     record {
@@ -86,13 +86,13 @@ layout m t bs j =
       marks = not-false (marked (drop (head_length m bs) bs)) f.1.1.1.0;
     }
 
-posted_row : (m : Meaning) (t : Table) (bs : List ℕ) → judged m t (post bs) ≡ Judgement.passes → Bytes bs → Accepted m (decode m bs) (length t.voices)
+posted_row : (m : Meaning) (t : TableData) (bs : List ℕ) → judged m t (post bs) ≡ Judgement.passes → Bytes bs → Accepted m (decode m bs) (length t.voices)
 posted_row m t bs j b =
     let f = (none_fits (reasons m t (post bs)) j).1.1.1.1 in
     record { shape = ((bytes_both_ways m).1 bs b (layout m t bs j)).0.shape; yes = verdict (m.accepts (decode m bs) (length t.voices)) f.0 f.1.0 }
 
 module _ (m : Meaning) (L : Laws m) where
-  pub goes : {b : ℕ} {t : Table} {v : View} {u : Table} {w : View} {k : ℕ} → OpensNodes any m b t v u w k → (lost : ℕ) → Fit m lost t v → Fit m (lost + k) u w
+  pub goes : {b : ℕ} {t : TableData} {v : View} {u : TableData} {w : View} {k : ℕ} → OpensNodes any m b t v u w k → (lost : ℕ) → Fit m lost t v → Fit m (lost + k) u w
   goes (OpensNodes.stay t v) lost f = subst (λ (i : ℕ). Fit m i t v) (omega arith) f
   goes (OpensNodes.more b t u v w x p n k j S G) lost f =
       let next = steps m L t.rows t.voices f.okay f.proper S t.opened t.exhausted lost (f.stage, f.store) in
@@ -102,7 +102,7 @@ module _ (m : Meaning) (L : Laws m) where
   made : (v : View) → v.held ≡ [] → Fit m 0 empty v
   made v e = record { proper = λ i l. absurd (omega arith); okay = tt; stage = refl; store = empty_store m [] 0 v e }
 
-  does : {t : Table} {v : View} {c : Call} {a : Answer} {u : Table} {w : View} (D : Does any m t v c a u w) → Formed c → (lost : ℕ) → Fit m lost t v
+  does : {t : TableData} {v : View} {c : Call} {a : Answer} {u : TableData} {w : View} (D : Does any m t v c a u w) → Formed c → (lost : ℕ) → Fit m lost t v
       → Fit m (lost_after D lost) u w
   does (Does.declines c n j) o lost f = f
   does {t} (Does.declares s w j e) o lost f = record {
@@ -121,7 +121,7 @@ module _ (m : Meaning) (L : Laws m) where
   does (Does.solves b u w k j S) o lost f = goes S.goes lost f
   does (Does.reads buffer p j e) o lost f = f
 
-  pub fit : {g : View} {h : List (Call × Answer)} {t : Table} {v : View} (H : History any m g h t v) → Fit m (keys_lost H) t v
+  pub fit : {g : View} {h : List (Call × Answer)} {t : TableData} {v : View} (H : History any m g h t v) → Fit m (keys_lost H) t v
   fit (History.made v e) = made v e
   fit (History.then h t u v w c a H o d) = does d o (keys_lost H) (fit H)
 
@@ -133,7 +133,7 @@ module _ (m : Meaning) (L : Laws m) where
   bounded rows voices v o e (found p) s = s.2
   bounded rows voices v o e none s = s.1
 
-  pub invariant_holds : (h : List (Call × Answer)) (t : Table) (v : View) → {g : View} (H : History any m g h t v) → Invariant m (keys_lost H) t v
+  pub invariant_holds : (h : List (Call × Answer)) (t : TableData) (v : View) → {g : View} (H : History any m g h t v) → Invariant m (keys_lost H) t v
   invariant_holds h t v H =
       let f = fit H in
       let at : (p : Place) → t.place ≡ p → Stage m t.rows t.voices p v t.opened t.exhausted =

@@ -8,7 +8,7 @@ use Rattle.sets.specs.Sets.{has, fixed, least, only}
 use Rattle.sets.specs.Placings.{all_fixed, Proper, Within, Narrower, Lesser, same}
 use Rattle.rows.specs.Rows.{RowData, Meaning}
 use Rattle.stores.specs.Keys.{key}
-use Rattle.stores.specs.Stores.{member, View}
+use Rattle.stores.specs.Stores.{is_held, View}
 use Rattle.search.specs.Search.{Level, Lowest, below, first_open, level_of, child, taken}
 use Rattle.rows.specs.Placed.{AllHold}
 use Rattle.search.proofs.SetParts.{Rest, rest, under, pinned, part_fixed, fixed_one, only_has, only_is, only_bounds}
@@ -99,7 +99,7 @@ Newest m rows l = (p : List ℕ) → Within p l.sets → AllHold m rows p → ha
 -- the keys of these levels are not held
 abbrev pub Unheld : Meaning → List RowData → View → List Level → Type 0
 Unheld m rows v [] = Unit {0}
-Unheld m rows v (l ∷ ls) = (member (key m rows l.sets) v.held ≡ false) × Unheld m rows v ls
+Unheld m rows v (l ∷ ls) = (is_held (key m rows l.sets) v.held ≡ false) × Unheld m rows v ls
 
 -- a set of a child
 child_at : (l : Level) (i : ℕ) → l.voice < length l.sets
@@ -267,7 +267,7 @@ module _ (m : Meaning) (rows : List RowData) (voices : List ℕ) where
 
   -- below these levels the key of another node is none of theirs
   pub unheld_after : (ls : List Level) (box c : List ℕ) (v w : View) → Chain ls box → Narrower c box → Proper c
-      → ((x : List ℕ) → member x w.held ≡ true → (same x (key m rows c) || member x v.held) ≡ true) → Unheld m rows v ls → Unheld m rows w ls
+      → ((x : List ℕ) → is_held x w.held ≡ true → (same x (key m rows c) || is_held x v.held) ≡ true) → Unheld m rows v ls → Unheld m rows w ls
   unheld_after [] box c v w k n p h u = tt
   unheld_after (l ∷ ls) box c v w k n p h u =
       let s = k.0 in
@@ -275,13 +275,13 @@ module _ (m : Meaning) (rows : List RowData) (voices : List ℕ) where
       let nc = narrow_trans c box l.sets n t.narrow in
       let shut : fixed (get_or c l.voice 0) ≡ true =
       pinned (get_or c l.voice 0) t.value (p l.voice (omega (arith, s.first.inside, nc.long))).0 (p l.voice (omega (arith, s.first.inside, nc.long))).1 (λ y b. t.at y (n.each l.voice y b)) in (
-        elim (cases_Bool (member (key m rows l.sets) w.held)) [
+        elim (cases_Bool (is_held (key m rows l.sets) w.held)) [
           | inr z ↦ z
-          | inl z ↦ elim (or_cases (same (key m rows l.sets) (key m rows c)) (member (key m rows l.sets) v.held) (h (key m rows l.sets) z)) [
+          | inl z ↦ elim (or_cases (same (key m rows l.sets) (key m rows c)) (is_held (key m rows l.sets) v.held) (h (key m rows l.sets) z)) [
             | inl e ↦
                 let like = alike m rows l.sets c s.proper p (sym nc.long) (same_is (key m rows l.sets) (key m rows c) e) in
                 absurd (both_ways (fixed (get_or l.sets l.voice 0)) s.first.free (like.same_fixed l.voice ∙ shut))
-            | inr e ↦ absurd (both_ways (member (key m rows l.sets) v.held) u.0 e)
+            | inr e ↦ absurd (both_ways (is_held (key m rows l.sets) v.held) u.0 e)
           ]
         ],
         unheld_after ls l.sets c v w k.3 nc p h u.1,

@@ -10,7 +10,7 @@ use Rattle.stores.specs.Stores.{View}
 use Rattle.search.proofs.AnyStore.{any}
 use Rattle.rows.specs.declared.limits.TheConstants.{MOST_VOICES, MOST_ROWS, MOST_BYTES, MOST_OPENED}
 use Rattle.rows.specs.Reasons.{Judgement}
-use Rattle.search.specs.Calls.{Table, Call, Answer, Formed, reasons, judged, empty, over, place_answer, Does}
+use Rattle.search.specs.Calls.{TableData, Call, Answer, Formed, reasons, judged, empty, over, place_answer, Does}
 use Rattle.search.specs.Calls.Call.{declare, post, solve}
 use Rattle.search.specs.Histories.{History}
 use Rattle.search.specs.Results.{AllLaidOut, Limited}
@@ -29,19 +29,19 @@ module _ (m : Meaning) where
   none_yet : Limited m empty
   none_yet = record { voices = omega arith; sets = λ i l. absurd (omega arith); rows = omega arith; bytes = omega arith; laid_out = tt; opened = omega arith }
 
-  solve_limit : (t : Table) (v : View) (b : ℕ) (u : Table) (w : View) → judged m t (solve b) ≡ Judgement.passes → Does any m t v (solve b) (place_answer u.place) u w → t.opened ≤ MOST_OPENED → u.opened ≤ MOST_OPENED
+  solve_limit : (t : TableData) (v : View) (b : ℕ) (u : TableData) (w : View) → judged m t (solve b) ≡ Judgement.passes → Does any m t v (solve b) (place_answer u.place) u w → t.opened ≤ MOST_OPENED → u.opened ≤ MOST_OPENED
   solve_limit t v b u w j d l =
       let k = solve_keeps_budget m t v b (place_answer u.place) u w j d in
       let f = (none_fits (reasons m t (solve b)) j).1.0 in
       elim (cases_Bool (over t.place)) [
-        | inl o ↦ omega (arith, l, ap (λ (x : Table). x.opened) (k.repeats o))
+        | inl o ↦ omega (arith, l, ap (λ (x : TableData). x.opened) (k.repeats o))
         | inr o ↦ elim (and_cases (not (over t.place)) (ltb MOST_OPENED (t.opened + b)) f) [
           | inl e ↦ absurd (both_ways (over t.place) o (not-false (over t.place) e))
           | inr e ↦ omega (arith, ltb-false MOST_OPENED (t.opened + b) e, k.at_most)
         ]
       ]
 
-  limits_after : {t : Table} {v : View} {c : Call} {a : Answer} {u : Table} {w : View} → Does any m t v c a u w → Formed c → Limited m t → Limited m u
+  limits_after : {t : TableData} {v : View} {c : Call} {a : Answer} {u : TableData} {w : View} → Does any m t v c a u w → Formed c → Limited m t → Limited m u
   limits_after (Does.declines c n j) o f = f
   limits_after {t} (Does.declares s w j e) o f = record {
     voices = omega (arith, length_push t.voices s, leb-false MOST_VOICES (length t.voices) (none_fits (reasons m t (declare s)) j).1.0);
@@ -75,9 +75,9 @@ module _ (m : Meaning) where
       }
   limits_after (Does.reads buffer p j e) o f = f
 
-  limits : {g : View} {h : List (Call × Answer)} {t : Table} {v : View} → History any m g h t v → Limited m t
+  limits : {g : View} {h : List (Call × Answer)} {t : TableData} {v : View} → History any m g h t v → Limited m t
   limits (History.made v e) = none_yet
   limits (History.then h t u v w c a H o d) = limits_after d o (limits H)
 
-pub limits_hold : (m : Meaning) (h : List (Call × Answer)) (t : Table) (v : View) → {g : View} → History any m g h t v → Limited m t
+pub limits_hold : (m : Meaning) (h : List (Call × Answer)) (t : TableData) (v : View) → {g : View} → History any m g h t v → Limited m t
 limits_hold m h t v H = limits m H

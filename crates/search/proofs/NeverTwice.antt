@@ -6,7 +6,7 @@ use Rattle.stores.specs.Keys.{key}
 use Rattle.stores.specs.Stores.{View}
 use Rattle.search.proofs.AnyStore.{any}
 use Rattle.search.specs.Search.{Level, Place, child, BacksUp, Opens, Steps}
-use Rattle.search.specs.Calls.{Table, Call, Answer, OpensNodes}
+use Rattle.search.specs.Calls.{TableData, Call, Answer, OpensNodes}
 use Rattle.search.specs.Histories.{History, keys_lost}
 use Rattle.search.specs.CallOutcomes.{BacksNew, OpensNew, StepsNew}
 use Rattle.search.proofs.Boxes.{narrow_refl}
@@ -39,8 +39,8 @@ module _ (m : Meaning) (rows : List RowData) (voices : List ℕ) where
   steps_new (Steps.first v w p n k O) o e g = opens_new O voices (record { narrow = narrow_refl voices; keeps = λ q y h. y }) tt
   steps_new (Steps.again l ls v w p n k O) o e g = opens_new O (child l) (child_chain m rows voices l ls g.0 g.1).0 g.2
 
-pub never_twice : (m : Meaning) → Laws m → (h : List (Call × Answer)) (t : Table) (v : View) → {g : View} → History any m g h t v
-    → (n j : ℕ) (u : Table) (w : View) → OpensNodes any m n t v u w j
+pub never_twice : (m : Meaning) → Laws m → (h : List (Call × Answer)) (t : TableData) (v : View) → {g : View} → History any m g h t v
+    → (n j : ℕ) (u : TableData) (w : View) → OpensNodes any m n t v u w j
     → (p : Place) (x : View) (i k : ℕ) (S : Steps any m u.voices u.rows u.place w p x i k) → StepsNew S
 never_twice m L h t v H n j u w G p x i k S =
     let f = goes m L G (keys_lost H) (fit m L H) in

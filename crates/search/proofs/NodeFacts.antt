@@ -8,7 +8,7 @@ use Rattle.sets.specs.Placings.{some_empty, all_fixed, Proper, Lesser, values, s
 use Rattle.rows.specs.Rows.{RowData, Meaning}
 use Rattle.rows.specs.Laws.{Laws}
 use Rattle.stores.specs.Keys.{key}
-use Rattle.stores.specs.Stores.{member, View, Keeps, distinct_keys}
+use Rattle.stores.specs.Stores.{is_held, View, Keeps, distinct_keys}
 use Rattle.search.proofs.AnyStore.{any}
 use Rattle.rows.specs.Placed.{Lawful, AllAccepted}
 use Rattle.search.specs.Search.{Level, Place, Node, below, level_of, node, child, taken, BacksUp, Opens, Steps}
@@ -43,16 +43,16 @@ Stage m rows voices none v o e = ((q : List ℕ) → Lawful m voices rows q → 
 
 -- the store, with e nodes exhausted and j keys lost
 pub record SoundStore (m : Meaning) (rows : List RowData) (n : ℕ) (v : View) (e j : ℕ) : Type 0 where
-  pub sound : (x : List ℕ) → member x v.held ≡ true → Sound m rows n x
+  pub sound : (x : List ℕ) → is_held x v.held ≡ true → Sound m rows n x
   pub count : j ≡ 0 → length v.held ≡ e
   pub distinct : distinct_keys v.held ≡ true
 
 -- w holds nothing but what v holds and k
 abbrev pub From : View → List ℕ → View → Type 0
-From v k w = (x : List ℕ) → member x w.held ≡ true → (same x k || member x v.held) ≡ true
+From v k w = (x : List ℕ) → is_held x w.held ≡ true → (same x k || is_held x v.held) ≡ true
 
-pub kept_from : (v : View) (k : List ℕ) (w : View) → Keeps v k Kept w → member k v.held ≡ false → From v k w × (length w.held ≡ length v.held + 1) × (distinct_keys v.held ≡ true → distinct_keys w.held ≡ true)
-kept_from v k w (Keeps.again h) f = absurd (both_ways (member k v.held) f h)
+pub kept_from : (v : View) (k : List ℕ) (w : View) → Keeps v k Kept w → is_held k v.held ≡ false → From v k w × (length w.held ≡ length v.held + 1) × (distinct_keys v.held ≡ true → distinct_keys w.held ≡ true)
+kept_from v k w (Keeps.again h) f = absurd (both_ways (is_held k v.held) f h)
 kept_from v k w (Keeps.joins w' h s j) f = (λ x z. sym (j.members x) ∙ z, j.count, j.distinct)
 
 pub lost_from : (v : View) (k : List ℕ) (w : View) → Keeps v k Lost w → From v k w × (distinct_keys v.held ≡ true → distinct_keys w.held ≡ true)
@@ -62,13 +62,13 @@ lost_from v k w (Keeps.loses w' h s j d z) = (j, d)
 abbrev pub Seen : Meaning → List RowData → View → ℕ → List ℕ → Node → Type 0
 Seen m rows v c b dead = some_empty b ≡ true
 Seen m rows v c b (solution p) = (all_fixed (drop c b) ≡ true) × (p ≡ values b) × (some_empty b ≡ false)
-Seen m rows v c b hit = (member (key m rows b) v.held ≡ true) × (some_empty b ≡ false)
-Seen m rows v c b (branch l) = (all_fixed (drop c b) ≡ false) × (member (key m rows b) v.held ≡ false) × (l ≡ level_of c b) × (some_empty b ≡ false)
+Seen m rows v c b hit = (is_held (key m rows b) v.held ≡ true) × (some_empty b ≡ false)
+Seen m rows v c b (branch l) = (all_fixed (drop c b) ≡ false) × (is_held (key m rows b) v.held ≡ false) × (l ≡ level_of c b) × (some_empty b ≡ false)
 
 pub seen : (m : Meaning) (rows : List RowData) (v : View) (c : ℕ) (b : List ℕ) (x : Node) → node m rows v c b ≡ x → Seen m rows v c b x
-seen m rows v c b x e = subst (Seen m rows v c b) e (go (some_empty b) (all_fixed (drop c b)) (member (key m rows b) v.held) refl refl refl)
+seen m rows v c b x e = subst (Seen m rows v c b) e (go (some_empty b) (all_fixed (drop c b)) (is_held (key m rows b) v.held) refl refl refl)
   where
-    go : (x y z : Bool) → some_empty b ≡ x → all_fixed (drop c b) ≡ y → member (key m rows b) v.held ≡ z
+    go : (x y z : Bool) → some_empty b ≡ x → all_fixed (drop c b) ≡ y → is_held (key m rows b) v.held ≡ z
         → Seen m rows v c b (elim x [ true ↦ dead | false ↦ elim y [ true ↦ solution (values b) | false ↦ elim z [ true ↦ hit | false ↦ branch (level_of c b) ] ] ])
     go true y z e f g = e
     go false true z e f g = (f, refl, e)
@@ -86,7 +86,7 @@ module _ (m : Meaning) (L : Laws m) (rows : List RowData) (voices : List ℕ) (o
   stored_after : (s : List ℕ) (v w : View) (e j f i : ℕ) → Proper s → length s ≡ length voices → Fails m rows s → From v (key m rows s) w
       → SoundStore m rows (length voices) v e j → (i ≡ 0 → length w.held ≡ f) → (distinct_keys v.held ≡ true → distinct_keys w.held ≡ true) → SoundStore m rows (length voices) w f i
   stored_after s v w e j f i p l fails h st c d = record {
-    sound = λ x z. elim (or_cases (same x (key m rows s)) (member x v.held) (h x z)) [
+    sound = λ x z. elim (or_cases (same x (key m rows s)) (is_held x v.held) (h x z)) [
       | inl y ↦ subst (Sound m rows (length voices)) (sym (same_is x (key m rows s) y)) (key_sound m L rows (length voices) s okay p l fails)
       | inr y ↦ st.sound x y
     ];

@@ -9,7 +9,7 @@ use Rattle.stores.specs.declared.store.Stored.{Stored}
 use Rattle.search.specs.Search.{Level, Place, Node, node, below, child, taken, BacksUp, Opens, Steps}
 use Rattle.search.specs.Propagation.{propagated}
 use Rattle.rows.specs.Reasons.{Judgement}
-use Rattle.search.specs.Calls.{Table, begun, empty, Call, Answer, judged, reasons, over, is_found, place_answer, result, node_more, OpensNodes, Solved, Does, lost_after}
+use Rattle.search.specs.Calls.{TableData, begun, empty, Call, Answer, judged, reasons, over, is_found, place_answer, result, node_more, OpensNodes, Solved, Does, lost_after}
 use Rattle.search.specs.Histories.{History, keys_lost, calls_in}
 use Rattle.search.specs.CallOutcomes.{CallOutcome}
 use Rattle.search.specs.Theorems.{OneOutcome, OneHistory}
@@ -67,23 +67,23 @@ module _ (store : Behaviour) (d : Decided store) (m : Meaning) where
   step voices rows (found p) v = stops (found p) v
   step voices rows none v = stops none v
 
-  abbrev pub next : Table → Ran store.State → Table
+  abbrev pub next : TableData → Ran store.State → TableData
   next t r = node_more t r.place r.exhausts
 
   -- with as many keys lost before
-  abbrev pub lost_first : ℕ → Table × store.State × ℕ → Table × store.State × ℕ
+  abbrev pub lost_first : ℕ → TableData × store.State × ℕ → TableData × store.State × ℕ
   lost_first k x = (x.0, x.1, k + x.2)
 
   -- one node, and then the others
-  abbrev pub run_on : (Table → store.State → Table × store.State × ℕ) → Table → Ran store.State → Table × store.State × ℕ
+  abbrev pub run_on : (TableData → store.State → TableData × store.State × ℕ) → TableData → Ran store.State → TableData × store.State × ℕ
   run_on others t r = lost_first r.loses (others (next t r) r.state)
 
   -- by whether the search is over
-  abbrev pub run_by : (Table → store.State → Table × store.State × ℕ) → Table → store.State → Bool → Table × store.State × ℕ
+  abbrev pub run_by : (TableData → store.State → TableData × store.State × ℕ) → TableData → store.State → Bool → TableData × store.State × ℕ
   run_by others t v ended = elim ended [ true ↦ (t, v, 0) | false ↦ run_on others t (step t.voices t.rows t.place v) ]
 
   -- the table, the store's state, and how many keys were lost
-  abbrev pub run : ℕ → Table → store.State → Table × store.State × ℕ
+  abbrev pub run : ℕ → TableData → store.State → TableData × store.State × ℕ
   run zero t v = (t, v, 0)
   run (suc b) t v = run_by (run b) t v (over t.place)
 
@@ -115,14 +115,14 @@ module _ (store : Behaviour) (d : Decided store) (m : Meaning) where
   step_is (Steps.first v w p n k O) = opens_is O
   step_is (Steps.again l ls v w p n k O) = opens_is O
 
-  run_over : (b : ℕ) (t : Table) (v : store.State) → over t.place ≡ true → run b t v ≡ (t, v, 0)
+  run_over : (b : ℕ) (t : TableData) (v : store.State) → over t.place ≡ true → run b t v ≡ (t, v, 0)
   run_over zero t v e = refl
   run_over (suc b) t v e = ap (run_by (run b) t v) e
 
-  run_more : (b : ℕ) (t : Table) (v : store.State) → over t.place ≡ false → run (suc b) t v ≡ run_on (run b) t (step t.voices t.rows t.place v)
+  run_more : (b : ℕ) (t : TableData) (v : store.State) → over t.place ≡ false → run (suc b) t v ≡ run_on (run b) t (step t.voices t.rows t.place v)
   run_more b t v e = ap (run_by (run b) t v) e
 
-  run_is : {n : ℕ} {t : Table} {v : store.State} {u : Table} {w : store.State} {k : ℕ} (G : OpensNodes store m n t v u w k) → (b : ℕ) → n ≤ b
+  run_is : {n : ℕ} {t : TableData} {v : store.State} {u : TableData} {w : store.State} {k : ℕ} (G : OpensNodes store m n t v u w k) → (b : ℕ) → n ≤ b
       → (over u.place ≡ true) ⊎ (n ≡ b) → run b t v ≡ (u, w, k)
   run_is (OpensNodes.stay t v) zero l e = refl
   run_is (OpensNodes.stay t v) (suc b) l e = elim e [ inl o ↦ run_over (suc b) t v o | inr o ↦ absurd (omega arith) ]
@@ -133,7 +133,7 @@ module _ (store : Behaviour) (d : Decided store) (m : Meaning) where
       ∙ ap (lost_first k) (run_is G b (omega arith) (elim e [ inl o ↦ inl o | inr o ↦ inr (omega arith) ]))
 
   -- what a call comes to, where i keys were lost before, and how many are lost then
-  abbrev pub comes : ℕ → Table → store.State → Call → Judgement → Answer × Table × store.State × ℕ
+  abbrev pub comes : ℕ → TableData → store.State → Call → Judgement → Answer × TableData × store.State × ℕ
   comes i t v c (declined n) = (Answer.refused n, t, v, i)
   comes i t v (declare x) passes = (Answer.done, begun (t.voices ++ (x ∷ [])) t.rows, d.emptied v, 0)
   comes i t v (post bs) passes = (Answer.done, begun t.voices (t.rows ++ (decode m bs ∷ [])), d.emptied v, 0)
@@ -141,7 +141,7 @@ module _ (store : Behaviour) (d : Decided store) (m : Meaning) where
   comes i t v (read buffer) passes = (Answer.wrote (length (result t.place)) (result t.place ++ drop (length (result t.place)) buffer), t, v, i)
   comes i t v wipe passes = (Answer.done, empty, d.emptied v, 0)
 
-  pub does_is : {t : Table} {v : store.State} {c : Call} {a : Answer} {u : Table} {w : store.State} (D : Does store m t v c a u w) (i : ℕ)
+  pub does_is : {t : TableData} {v : store.State} {c : Call} {a : Answer} {u : TableData} {w : store.State} (D : Does store m t v c a u w) (i : ℕ)
       → comes i t v c (judged m t c) ≡ (a, u, w, lost_after D i)
   does_is {t} {v} (Does.declines c n j) i = ap (comes i t v c) j
   does_is {t} {v} (Does.declares x w j e) i =
@@ -150,20 +150,20 @@ module _ (store : Behaviour) (d : Decided store) (m : Meaning) where
       ap (comes i t v (post bs)) j ∙ ap (λ (z : store.State). (Answer.done, begun t.voices (t.rows ++ (decode m bs ∷ [])), z, zero)) (sym (d.emptied_only v w e))
   does_is {t} {v} (Does.wipes w e) i = ap (λ (z : store.State). (Answer.done, empty, z, zero)) (sym (d.emptied_only v w e))
   does_is {t} {v} (Does.solves b u w k j S) i =
-      ap (comes i t v (solve b)) j ∙ ap (λ (r : Table × store.State × ℕ). (place_answer r.0.place, r.0, r.1, i + r.2)) (run_is S.goes b S.inside S.ends)
+      ap (comes i t v (solve b)) j ∙ ap (λ (r : TableData × store.State × ℕ). (place_answer r.0.place, r.0, r.1, i + r.2)) (run_is S.goes b S.inside S.ends)
   does_is {t} {v} (Does.reads buffer p j e) i =
       ap (comes i t v (read buffer)) j ∙ ap (λ (x : Place). (Answer.wrote (length (result x)) (result x ++ drop (length (result x)) buffer), t, v, i)) e
 
-  only_one : (t : Table) (v : store.State) (c : Call) (x y : CallOutcome store m t v c)
+  only_one : (t : TableData) (v : store.State) (c : Call) (x y : CallOutcome store m t v c)
       → (x.answer ≡ y.answer) × (x.table ≡ y.table) × (x.state ≡ y.state) × ((i : ℕ) → lost_after x.does i ≡ lost_after y.does i)
   only_one t v c x y = (
-    ap (λ (r : Answer × Table × store.State × ℕ). r.0) (e 0),
-    ap (λ (r : Answer × Table × store.State × ℕ). r.1) (e 0),
-    ap (λ (r : Answer × Table × store.State × ℕ). r.2) (e 0),
-    (λ i. ap (λ (r : Answer × Table × store.State × ℕ). r.3) (e i)),
+    ap (λ (r : Answer × TableData × store.State × ℕ). r.0) (e 0),
+    ap (λ (r : Answer × TableData × store.State × ℕ). r.1) (e 0),
+    ap (λ (r : Answer × TableData × store.State × ℕ). r.2) (e 0),
+    (λ i. ap (λ (r : Answer × TableData × store.State × ℕ). r.3) (e i)),
   )
     where
-      e : (i : ℕ) → ◌≡◌ {A = Answer × Table × store.State × ℕ} (x.answer, x.table, x.state, lost_after x.does i) (y.answer, y.table, y.state, lost_after y.does i)
+      e : (i : ℕ) → ◌≡◌ {A = Answer × TableData × store.State × ℕ} (x.answer, x.table, x.state, lost_after x.does i) (y.answer, y.table, y.state, lost_after y.does i)
       e i = sym (does_is x.does i) ∙ does_is y.does i
 
   -- ---- there is an outcome
@@ -239,13 +239,13 @@ module _ (store : Behaviour) (d : Decided store) (m : Meaning) where
   some_step voices rows (found p) v = inl refl
   some_step voices rows none v = inl refl
 
-  record SomeSolve (b : ℕ) (t : Table) (v : store.State) : Type 0 where
-    table : Table
+  record SomeSolve (b : ℕ) (t : TableData) (v : store.State) : Type 0 where
+    table : TableData
     state : store.State
     loses : ℕ
     does : Solved store m b t v table state loses
 
-  some_solve : (b : ℕ) (t : Table) (v : store.State) → SomeSolve b t v
+  some_solve : (b : ℕ) (t : TableData) (v : store.State) → SomeSolve b t v
   some_solve zero t v = record { table = t; state = v; loses = 0; does = record { count = 0; inside = omega arith; goes = OpensNodes.stay t v; ends = inr refl } }
   some_solve (suc b) t v =
       elim (some_step t.voices t.rows t.place v) [
@@ -271,7 +271,7 @@ module _ (store : Behaviour) (d : Decided store) (m : Meaning) where
   found_by (found p) e = refl
   found_by none e = absurd (both_ways false refl e)
 
-  outcome : (t : Table) (v : store.State) (c : Call) → CallOutcome store m t v c
+  outcome : (t : TableData) (v : store.State) (c : Call) → CallOutcome store m t v c
   outcome t v c = go c (judged m t c) refl
     where
       go : (c : Call) (j : Judgement) → judged m t c ≡ j → CallOutcome store m t v c
@@ -301,11 +301,11 @@ one_outcome store d m t v c = (outcome store d m t v c, only_one store d m t v c
 -- what a history has come to
 pub record Played (S : Type 0) : Type 0 where
   pub calls : List (Call × Answer)
-  pub table : Table
+  pub table : TableData
   pub state : S
   pub lost : ℕ
 
-abbrev pub noted : {S : Type 0} → Call → List (Call × Answer) → Answer × Table × S × ℕ → Played S
+abbrev pub noted : {S : Type 0} → Call → List (Call × Answer) → Answer × TableData × S × ℕ → Played S
 noted c h r = record { calls = (c, r.0) ∷ h; table = r.1; state = r.2; lost = r.3 }
 
 module _ (store : Behaviour) (d : Decided store) (m : Meaning) (g : store.State) where
@@ -319,7 +319,7 @@ module _ (store : Behaviour) (d : Decided store) (m : Meaning) (g : store.State)
   replay (c ∷ cs) = play c (replay cs)
 
   -- a history is what its calls come to when they are played
-  pub replayed : {h : List (Call × Answer)} {t : Table} {s : store.State} (H : History store m g h t s)
+  pub replayed : {h : List (Call × Answer)} {t : TableData} {s : store.State} (H : History store m g h t s)
       → replay (calls_in h) ≡ record { calls = h; table = t; state = s; lost = keys_lost H }
   replayed (History.made s e) = ap (λ (x : store.State). record { calls = []; table = empty; state = x; lost = 0 }) (sym (d.emptied_only g s e))
   replayed (History.then h t u s r c a H f D) = ap (play c) (replayed H) ∙ ap (noted c h) (does_is store d m D (keys_lost H))

@@ -3,7 +3,7 @@ use Rattle.std.proofs.Common.{◌≡◌, ℕ, true, ◌∙◌, sym, subst}
 use Rattle.rows.specs.Rows.{Meaning}
 use Rattle.stores.specs.Behaviours.{Behaviour}
 use Rattle.rows.specs.Reasons.{Judgement}
-use Rattle.search.specs.Calls.{Table, Answer, judged, over, Does}
+use Rattle.search.specs.Calls.{TableData, Answer, judged, over, Does}
 use Rattle.search.specs.Calls.Call.{solve}
 use Rattle.search.specs.Results.{Invariant}
 use Rattle.search.specs.Theorems.{InvariantHolds, BranchesLowest, LevelsRise, NeverTwice, AnswersHold, ReadsHold, TablesGiven, ResultsAgree, SolveKeepsBudget, LimitsHold, StoresAgree}
@@ -42,7 +42,7 @@ module _ (b : Behaviour) where
   pub limits_hold : LimitsHold b
   limits_hold m g h t s H = limits.limits_hold m h t (b.view s) (history_any b m H)
 
-  solve_leaves : (m : Meaning) (t : Table) (s : b.State) (budget : ℕ) (a : Answer) (u : Table) (r : b.State)
+  solve_leaves : (m : Meaning) (t : TableData) (s : b.State) (budget : ℕ) (a : Answer) (u : TableData) (r : b.State)
       → judged m t (solve budget) ≡ Judgement.passes → Does b m t s (solve budget) a u r → over t.place ≡ true → r ≡ s
   solve_leaves m t s budget a u r j (Does.declines c n d) o = absurd (not_both d j)
   solve_leaves m t s budget a u r j (Does.solves budget' u' r' lost _ S) o = goes_over b m S.goes o

@@ -3,7 +3,7 @@ use Rattle.std.proofs.Common.{◌≡◌, ℕ, ◌<◌, ◌≤◌, Bool, true, fa
 use Rattle.std.proofs.lemmas.Bool.{both_ways, ne_eqb, eq-eqb, or_from, or_left, or_right, and_from, and_left, and_right, cases_order}
 use Rattle.rows.specs.Rows.{Meaning}
 use Rattle.rows.specs.Reasons.{Judgement, judge}
-use Rattle.search.specs.Calls.{Table, Call, reasons, judged}
+use Rattle.search.specs.Calls.{TableData, Call, reasons, judged}
 use Rattle.search.specs.Results.{reason_fits}
 use Rattle.search.specs.Calls.Call.{declare, post, solve, read, wipe}
 use Rattle.rows.specs.Reasons.Judgement.{passes, declined}
@@ -13,7 +13,7 @@ abbrev Above : ℕ → List (ℕ × Bool) → Type 0
 Above b [] = Unit {0}
 Above b ((k, f) ∷ others) = (b < k) × Above k others
 
-ascending : (m : Meaning) (t : Table) (c : Call) → Above 0 (reasons m t c)
+ascending : (m : Meaning) (t : TableData) (c : Call) → Above 0 (reasons m t c)
 ascending m t (declare s) = omega arith
 ascending m t (post bs) = omega arith
 ascending m t (solve b) = omega arith
@@ -59,7 +59,7 @@ smallest_one rs (declined n) (declined k) a b =
       ]
     ]
 
-pub refusals_smallest : (m : Meaning) (t : Table) (c : Call)
+pub refusals_smallest : (m : Meaning) (t : TableData) (c : Call)
     → ((n : ℕ) → (judged m t c ≡ declined n) ↔ ((reason_fits n (reasons m t c) ≡ true) × ((k : ℕ) → k < n → reason_fits k (reasons m t c) ≡ false)))
     × ((judged m t c ≡ passes) ↔ ((k : ℕ) → reason_fits k (reasons m t c) ≡ false))
 refusals_smallest m t c =

@@ -4,13 +4,13 @@ use Rattle.std.proofs.lemmas.Bool.{both_ways}
 use Rattle.sets.specs.Placings.{some_empty, all_fixed, values, same}
 use Rattle.rows.specs.Rows.{RowData, Meaning}
 use Rattle.stores.specs.Keys.{key}
-use Rattle.stores.specs.Stores.{member, View, Keeps}
+use Rattle.stores.specs.Stores.{is_held, View, Keeps}
 use Rattle.stores.specs.declared.store.Stored.TheVariants.{Kept}
 use Rattle.search.proofs.AnyStore.{any}
 use Rattle.search.specs.Search.{Level, Place, Node, node, level_of, below, child, taken, BacksUp, Opens, Steps}
 use Rattle.search.specs.Propagation.{propagated}
 use Rattle.rows.specs.Reasons.{Judgement}
-use Rattle.search.specs.Calls.{Table, Call, Answer, over, place_answer, result, node_more, OpensNodes, Does, lost_after}
+use Rattle.search.specs.Calls.{TableData, Call, Answer, over, place_answer, result, node_more, OpensNodes, Does, lost_after}
 use Rattle.search.specs.CallOutcomes.{SameKeys}
 use Rattle.search.specs.Search.Place.{going, found, none}
 use Rattle.search.specs.Search.Node.{dead, solution, hit, branch}
@@ -19,8 +19,8 @@ use Rattle.search.proofs.AnswerFacts.{steps_not_over}
 
 keeps_agree : (v v' : View) (k : List ℕ) (w w' : View) → SameKeys v v' → Keeps v k Kept w → Keeps v' k Kept w' → SameKeys w w'
 keeps_agree v v' k w w' s (Keeps.again h) (Keeps.again g) = s
-keeps_agree v v' k w w' s (Keeps.again h) (Keeps.joins x g f j) = absurd (both_ways (member k v'.held) g (sym (s k) ∙ h))
-keeps_agree v v' k w w' s (Keeps.joins x g f j) (Keeps.again h) = absurd (both_ways (member k v.held) g (s k ∙ h))
+keeps_agree v v' k w w' s (Keeps.again h) (Keeps.joins x g f j) = absurd (both_ways (is_held k v'.held) g (sym (s k) ∙ h))
+keeps_agree v v' k w w' s (Keeps.joins x g f j) (Keeps.again h) = absurd (both_ways (is_held k v.held) g (s k ∙ h))
 keeps_agree v v' k w w' s (Keeps.joins x g f j) (Keeps.joins x' g' f' j') =
     λ y. j.members y ∙ ap (λ (b : Bool). same y k || b) (s y) ∙ sym (j'.members y)
 
@@ -43,7 +43,7 @@ module _ (m : Meaning) where
   backed (BacksUp.loses l ls v w u p n k z K B) e = absurd (omega arith)
 
   moved : (v v' w w' : View) → w ≡ v → w' ≡ v' → SameKeys v v' → SameKeys w w'
-  moved v v' w w' e e' s x = ap (λ (z : View). member x z.held) e ∙ s x ∙ sym (ap (λ (z : View). member x z.held) e')
+  moved v v' w w' e e' s x = ap (λ (z : View). is_held x z.held) e ∙ s x ∙ sym (ap (λ (z : View). is_held x z.held) e')
 
   backed_agree : (rows : List RowData) (ls : List Level) (v v' : View) (p p' : Place) (w w' : View) (n n' : ℕ) → SameKeys v v'
       → Backed rows ls v p w n → Backed rows ls v' p' w' n' → Both p w n p' w' n'
@@ -97,17 +97,17 @@ module _ (m : Meaning) where
   steps_agree {voices} {rows} s (Steps.again l ls v w p n k O) (Steps.again l' ls' v' w' p' n' k' O') e e' =
       opens_agree rows (child l) (taken l ∷ ls) v v' s O O' e e'
 
-  goes_agree : {i i' : ℕ} {t t' : Table} {v v' : View} {u u' : Table} {w w' : View} {k k' : ℕ} → OpensNodes any m i t v u w k → OpensNodes any m i' t' v' u' w' k'
+  goes_agree : {i i' : ℕ} {t t' : TableData} {v v' : View} {u u' : TableData} {w w' : View} {k k' : ℕ} → OpensNodes any m i t v u w k → OpensNodes any m i' t' v' u' w' k'
       → (b : ℕ) → t ≡ t' → SameKeys v v' → i ≤ b → i' ≤ b → (over u.place ≡ true) ⊎ (i ≡ b) → (over u'.place ≡ true) ⊎ (i' ≡ b) → k ≡ 0 → k' ≡ 0
       → (u ≡ u') × SameKeys w w'
   goes_agree (OpensNodes.stay t v) (OpensNodes.stay t' v') b q s l l' e e' z z' = (q, s)
   goes_agree (OpensNodes.stay t v) (OpensNodes.more i' t' u' v' w' x' p' n' k' j' S' G') b q s l l' e e' z z' =
-      elim e [ inl o ↦ absurd (both_ways (over t'.place) (steps_not_over S') (sym (ap (λ (x : Table). over x.place) q) ∙ o)) | inr o ↦ absurd (omega arith) ]
+      elim e [ inl o ↦ absurd (both_ways (over t'.place) (steps_not_over S') (sym (ap (λ (x : TableData). over x.place) q) ∙ o)) | inr o ↦ absurd (omega arith) ]
   goes_agree (OpensNodes.more i t u v w x p n k j S G) (OpensNodes.stay t' v') b q s l l' e e' z z' =
-      elim e' [ inl o ↦ absurd (both_ways (over t.place) (steps_not_over S) (ap (λ (x : Table). over x.place) q ∙ o)) | inr o ↦ absurd (omega arith) ]
+      elim e' [ inl o ↦ absurd (both_ways (over t.place) (steps_not_over S) (ap (λ (x : TableData). over x.place) q ∙ o)) | inr o ↦ absurd (omega arith) ]
   goes_agree (OpensNodes.more i t u v w x p n k j S G) (OpensNodes.more i' t' u' v' w' x' p' n' k' j' S' G') zero q s l l' e e' z z' = absurd (omega arith)
   goes_agree (OpensNodes.more i t u v w x p n k j S G) (OpensNodes.more i' t' u' v' w' x' p' n' k' j' S' G') (suc b) q s l l' e e' z z' =
-      let r = steps_agree s S (subst (λ (y : Table). Steps any m y.voices y.rows y.place v' p' w' n' k') (sym q) S') (omega arith) (omega arith) in
+      let r = steps_agree s S (subst (λ (y : TableData). Steps any m y.voices y.rows y.place v' p' w' n' k') (sym q) S') (omega arith) (omega arith) in
       goes_agree G G' b (λ j. node_more (q j) (r.0 j) (r.1 j)) r.2 (omega arith) (omega arith) (elim e [ inl o ↦ inl o | inr o ↦ inr (omega arith) ]) (elim e' [ inl o ↦ inl o | inr o ↦ inr (omega arith) ])
       (omega arith) (omega arith)
 
@@ -116,9 +116,9 @@ module _ (m : Meaning) where
   number (Judgement.declined n) = n
 
   none_held : (w w' : View) → w.held ≡ [] → w'.held ≡ [] → SameKeys w w'
-  none_held w w' e e' x = ap (member x) (e ∙ sym e')
+  none_held w w' e e' x = ap (is_held x) (e ∙ sym e')
 
-  does_agree : (t : Table) (v v' : View) {c : Call} {a a' : Answer} {u u' : Table} {w w' : View} → SameKeys v v'
+  does_agree : (t : TableData) (v v' : View) {c : Call} {a a' : Answer} {u u' : TableData} {w w' : View} → SameKeys v v'
       → (D : Does any m t v c a u w) (D' : Does any m t v' c a' u' w') → lost_after D 0 ≡ 0 → lost_after D' 0 ≡ 0
       → (a ≡ a') × (u ≡ u') × SameKeys w w' × ((n : ℕ) → lost_after D n ≡ lost_after D' n)
   does_agree t v v' s (Does.declines c n j) (Does.declines c' n' j') z z' = (ap (λ (x : Judgement). Answer.refused (number x)) (sym j ∙ j'), refl, s, λ i. refl)
@@ -136,12 +136,12 @@ module _ (m : Meaning) where
   does_agree t v v' s (Does.solves b u w k j S) (Does.declines c n j') z z' = absurd (not_both j' j)
   does_agree t v v' s (Does.solves b u w k j S) (Does.solves b' u' w' k' j' S') z z' =
       let r = goes_agree S.goes S'.goes b refl s S.inside S'.inside S.ends S'.ends (omega (arith, z)) (omega (arith, z')) in
-      (ap (λ (x : Table). place_answer x.place) r.0, r.0, r.1, λ i. omega (arith, z, z'))
+      (ap (λ (x : TableData). place_answer x.place) r.0, r.0, r.1, λ i. omega (arith, z, z'))
   does_agree t v v' s (Does.reads b p j e) (Does.declines c n j') z z' = absurd (not_both j' j)
   does_agree t v v' s (Does.reads b p j e) (Does.reads b' p' j' e') z z' =
       (ap (λ (x : Place). Answer.wrote (length (result x)) (result x ++ drop (length (result x)) b)) (sym e ∙ e'), refl, s, λ i. refl)
 
-pub stores_agree : (m : Meaning) (t : Table) (v v' : View) (c : Call) (a a' : Answer) (u u' : Table) (w w' : View) → SameKeys v v'
+pub stores_agree : (m : Meaning) (t : TableData) (v v' : View) (c : Call) (a a' : Answer) (u u' : TableData) (w w' : View) → SameKeys v v'
     → (D : Does any m t v c a u w) (D' : Does any m t v' c a' u' w') → lost_after D 0 ≡ 0 → lost_after D' 0 ≡ 0
     → (a ≡ a') × (u ≡ u') × SameKeys w w' × ((n : ℕ) → lost_after D n ≡ lost_after D' n)
 stores_agree m t v v' c a a' u u' w w' s d d' z z' = does_agree m t v v' s d d' z z'

@@ -6,7 +6,7 @@ use Rattle.rows.specs.Rows.{RowData, Meaning}
 use Rattle.stores.specs.Stores.{View}
 use Rattle.search.specs.Propagation.{propagated}
 use Rattle.search.specs.Search.{Place, Level, Node, Lowest, below, node, child, taken}
-use Rattle.search.specs.Calls.{Table}
+use Rattle.search.specs.Calls.{TableData}
 
 -- the voice k is above that of the newest of these levels
 abbrev pub AboveNewest : ℕ → List Level → Type 0
@@ -35,7 +35,7 @@ pub record NodeLowest (m : Meaning) (rows : List RowData) (v : View) (ls : List 
       → (l.sets ≡ propagated m rows s) × Lowest l.sets l.voice × (l.left ≡ slice_index l.sets l.voice)
 
 -- a table's levels, and the node that is opened next
-pub record TableLowest (m : Meaning) (t : Table) (v : View) : Type 0 where
+pub record TableLowest (m : Meaning) (t : TableData) (v : View) : Type 0 where
   pub levels : (l : Level) (ls : List Level) → t.place ≡ Place.going l ls → Ascending (length t.voices) (l ∷ ls)
   pub root : t.place ≡ Place.fresh → NodeLowest m t.rows v [] t.voices
   pub next : (l : Level) (ls : List Level) → t.place ≡ Place.going l ls → NodeLowest m t.rows v (taken l ∷ ls) (child l)

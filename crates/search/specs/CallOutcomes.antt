@@ -2,26 +2,26 @@
 use Rattle.std.specs.Prelude.{◌≡◌, ℕ, false, List}
 use Rattle.rows.specs.Rows.{RowData, Meaning}
 use Rattle.stores.specs.Keys.{key}
-use Rattle.stores.specs.Stores.{member, View}
+use Rattle.stores.specs.Stores.{is_held, View}
 use Rattle.stores.specs.Behaviours.{Behaviour}
 use Rattle.search.specs.Search.{Level, Place, BacksUp, Opens, Steps}
-use Rattle.search.specs.Calls.{Table, Call, Answer, Does, lost_after}
+use Rattle.search.specs.Calls.{TableData, Call, Answer, Does, lost_after}
 
 -- what a call can come to over this store
-pub record CallOutcome (b : Behaviour) (m : Meaning) (t : Table) (s : b.State) (c : Call) : Type 0 where
+pub record CallOutcome (b : Behaviour) (m : Meaning) (t : TableData) (s : b.State) (c : Call) : Type 0 where
   pub answer : Answer
-  pub table : Table
+  pub table : TableData
   pub state : b.State
   pub does : Does b m t s c answer table state
 
 -- no key is lost in this call
-abbrev pub LosesNone : {b : Behaviour} {m : Meaning} {t : Table} {s : b.State} {c : Call}
-    {a : Answer} {u : Table} {r : b.State} → Does b m t s c a u r → Type 0
+abbrev pub LosesNone : {b : Behaviour} {m : Meaning} {t : TableData} {s : b.State} {c : Call}
+    {a : Answer} {u : TableData} {r : b.State} → Does b m t s c a u r → Type 0
 LosesNone D = lost_after D 0 ≡ 0
 
 -- where two stores had lost as many keys before these calls, they have lost as many after them
-abbrev pub SameLost : {b b' : Behaviour} {m m' : Meaning} {t t' : Table} {s : b.State} {s' : b'.State}
-    {c c' : Call} {a a' : Answer} {u u' : Table} {r : b.State} {r' : b'.State}
+abbrev pub SameLost : {b b' : Behaviour} {m m' : Meaning} {t t' : TableData} {s : b.State} {s' : b'.State}
+    {c c' : Call} {a a' : Answer} {u u' : TableData} {r : b.State} {r' : b'.State}
     → Does b m t s c a u r → Does b' m' t' s' c' a' u' r' → Type 0
 SameLost D D' = (n : ℕ) → lost_after D n ≡ lost_after D' n
 
@@ -29,14 +29,14 @@ SameLost D D' = (n : ℕ) → lost_after D n ≡ lost_after D' n
 
 -- two stores hold the same keys
 abbrev pub SameKeys : View → View → Type 0
-SameKeys v w = (x : List ℕ) → member x v.held ≡ member x w.held
+SameKeys v w = (x : List ℕ) → is_held x v.held ≡ is_held x w.held
 
 -- none of the keys of the nodes that are exhausted in backing up is held when it goes to the store
 abbrev pub BacksNew : {b : Behaviour} {m : Meaning} {rows : List RowData} {ls : List Level} {s : b.State} {p : Place} {t : b.State} {n k : ℕ} → BacksUp b m rows ls s p t n k → Type 0
 BacksNew (BacksUp.root s) = Unit {0}
 BacksNew (BacksUp.next l ls s z) = Unit {0}
-BacksNew {b} {m} {rows} (BacksUp.keeps l ls s t u p n k z K B) = (member (key m rows l.sets) (b.view s).held ≡ false) × BacksNew B
-BacksNew {b} {m} {rows} (BacksUp.loses l ls s t u p n k z K B) = (member (key m rows l.sets) (b.view s).held ≡ false) × BacksNew B
+BacksNew {b} {m} {rows} (BacksUp.keeps l ls s t u p n k z K B) = (is_held (key m rows l.sets) (b.view s).held ≡ false) × BacksNew B
+BacksNew {b} {m} {rows} (BacksUp.loses l ls s t u p n k z K B) = (is_held (key m rows l.sets) (b.view s).held ≡ false) × BacksNew B
 
 -- none of those that the opening of a node exhausts
 abbrev pub OpensNew : {b : Behaviour} {m : Meaning} {rows : List RowData} {sets : List ℕ} {ls : List Level} {s : b.State} {p : Place} {t : b.State} {n k : ℕ}

@@ -11,7 +11,7 @@ use Rattle.search.specs.Search.{Place, Steps}
 -- ---- tables
 
 -- the opening sets of the voices, the rows, where the search stands, the nodes opened since it began and those exhausted since the store was emptied
-pub record Table : Type 0 where
+pub record TableData : Type 0 where
   pub voices : List ℕ
   pub rows : List RowData
   pub place : Place
@@ -19,11 +19,11 @@ pub record Table : Type 0 where
   pub exhausted : ℕ
 
 -- a table whose search has not begun
-abbrev pub begun : List ℕ → List RowData → Table
+abbrev pub begun : List ℕ → List RowData → TableData
 begun voices rows = record { voices = voices; rows = rows; place = Place.fresh; opened = 0; exhausted = 0 }
 
 -- a table with no voices and no rows
-abbrev pub empty : Table
+abbrev pub empty : TableData
 empty = begun [] []
 
 -- the search is over
@@ -77,7 +77,7 @@ Formed wipe = Unit {0}
 -- ---- refusals
 
 -- The numbers under which a call may be declined, ascending, each with whether it fits.
-abbrev pub reasons : Meaning → Table → Call → List (ℕ × Bool)
+abbrev pub reasons : Meaning → TableData → Call → List (ℕ × Bool)
 reasons m t (declare s) = voice_reasons t.voices s
 reasons m t (post bs) = row_reasons m t.voices t.rows bs
 reasons m t (solve b) =
@@ -88,13 +88,13 @@ reasons m t (read buffer) = (15, not (is_found t.place)) ∷ (16, nat_lt (length
 reasons m t wipe = []
 
 -- what becomes of this call
-abbrev pub judged : Meaning → Table → Call → Judgement
+abbrev pub judged : Meaning → TableData → Call → Judgement
 judged m t c = judge (reasons m t c)
 
 -- ---- Solve
 
 -- the table after one node more: where the search then stands, and how many levels were exhausted
-abbrev pub node_more : Table → Place → ℕ → Table
+abbrev pub node_more : TableData → Place → ℕ → TableData
 node_more t p n = record {
   voices = t.voices;
   rows = t.rows;
@@ -105,17 +105,17 @@ node_more t p n = record {
 
 -- So many nodes, one after the other, none of them after the search is over; over a store with
 -- the behaviour b, from one state to another. The last number is how many keys the store lost.
-pub data OpensNodes (b : Behaviour) (m : Meaning) : ℕ → Table → b.State → Table → b.State → ℕ → Type 0 where
-  stay : (t : Table) (s : b.State) → OpensNodes b m zero t s t s 0
-  more : (i : ℕ) (t u : Table) (s r x : b.State) (p : Place) (n k lost : ℕ)
+pub data OpensNodes (b : Behaviour) (m : Meaning) : ℕ → TableData → b.State → TableData → b.State → ℕ → Type 0 where
+  stay : (t : TableData) (s : b.State) → OpensNodes b m zero t s t s 0
+  more : (i : ℕ) (t u : TableData) (s r x : b.State) (p : Place) (n k lost : ℕ)
       → Steps b m t.voices t.rows t.place s p r n k
       → OpensNodes b m i (node_more t p n) r u x lost
       → OpensNodes b m (suc i) t s u x (k + lost)
 
 -- a Solve with a budget: at most so many nodes, and fewer only if the search is over; the store
 -- loses so many keys
-pub record Solved (b : Behaviour) (m : Meaning) (budget : ℕ) (t : Table) (s : b.State)
-    (u : Table) (r : b.State) (lost : ℕ) : Type 0 where
+pub record Solved (b : Behaviour) (m : Meaning) (budget : ℕ) (t : TableData) (s : b.State)
+    (u : TableData) (r : b.State) (lost : ℕ) : Type 0 where
   pub count : ℕ
   pub inside : count ≤ budget
   pub goes : OpensNodes b m count t s u r lost
@@ -131,7 +131,7 @@ place_answer Place.none = none
 -- ---- what a call does to a table and its store
 
 -- The call, its answer, and the table and the state of the store that it leaves.
-pub data Does (b : Behaviour) (m : Meaning) (t : Table) (s : b.State) : Call → Answer → Table → b.State → Type 0 where
+pub data Does (b : Behaviour) (m : Meaning) (t : TableData) (s : b.State) : Call → Answer → TableData → b.State → Type 0 where
   -- a declined call leaves both as they are
   declines : (c : Call) (n : ℕ) → judged m t c ≡ declined n → Does b m t s c (refused n) t s
   -- Declare, Post and Wipe empty the store, and the search begins again
@@ -139,7 +139,7 @@ pub data Does (b : Behaviour) (m : Meaning) (t : Table) (s : b.State) : Call →
   posts : (bs : List ℕ) (r : b.State) → judged m t (post bs) ≡ passes → b.empties s r → Does b m t s (post bs) done (begun t.voices (t.rows ++ (decode m bs ∷ []))) r
   wipes : (r : b.State) → b.empties s r → Does b m t s wipe done empty r
   -- Solve goes on from where the last one stopped
-  solves : (budget : ℕ) (u : Table) (r : b.State) (lost : ℕ) → judged m t (solve budget) ≡ passes
+  solves : (budget : ℕ) (u : TableData) (r : b.State) (lost : ℕ) → judged m t (solve budget) ≡ passes
       → Solved b m budget t s u r lost → Does b m t s (solve budget) (place_answer u.place) u r
   -- the values at the front of the buffer, and the bytes beyond as they were
   reads : (buffer p : List ℕ) → judged m t (read buffer) ≡ passes → t.place ≡ Place.found p
@@ -147,8 +147,8 @@ pub data Does (b : Behaviour) (m : Meaning) (t : Table) (s : b.State) : Call →
 
 -- How many keys the store has lost since it was emptied, where it had lost n before this call. No
 -- table has this count: it follows from what Keep returned.
-abbrev pub lost_after : {b : Behaviour} {m : Meaning} {t : Table} {s : b.State} {c : Call}
-    {a : Answer} {u : Table} {r : b.State} → Does b m t s c a u r → ℕ → ℕ
+abbrev pub lost_after : {b : Behaviour} {m : Meaning} {t : TableData} {s : b.State} {c : Call}
+    {a : Answer} {u : TableData} {r : b.State} → Does b m t s c a u r → ℕ → ℕ
 lost_after (Does.declines c k j) n = n
 lost_after (Does.declares set r j e) n = 0
 lost_after (Does.posts bs r j e) n = 0

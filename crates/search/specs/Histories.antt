@@ -3,25 +3,25 @@ use Rattle.std.specs.Prelude.{◌≡◌, ℕ, Bool, true, false, cond, List, [],
 use Rattle.rows.specs.Rows.{RowData, Meaning}
 use Rattle.rows.specs.Bytes.{decode}
 use Rattle.stores.specs.Behaviours.{Behaviour}
-use Rattle.search.specs.Calls.{Table, empty, Call, Answer, Formed, Does, lost_after}
+use Rattle.search.specs.Calls.{TableData, empty, Call, Answer, Formed, Does, lost_after}
 use Rattle.search.specs.Calls.Call.{declare, post, solve, read, wipe}
 
 -- What was called and answered, the newest first, since Make gave an empty table over a store in the state g, which it emptied; and the table and the state that it
 -- led to.
-pub data History (b : Behaviour) (m : Meaning) (g : b.State) : List (Call × Answer) → Table → b.State → Type 0 where
+pub data History (b : Behaviour) (m : Meaning) (g : b.State) : List (Call × Answer) → TableData → b.State → Type 0 where
   made : (s : b.State) → b.empties g s → History b m g [] empty s
-  then : (h : List (Call × Answer)) (t u : Table) (s r : b.State) (c : Call) (a : Answer) → History b m g h t s → Formed c → Does b m t s c a u r
+  then : (h : List (Call × Answer)) (t u : TableData) (s r : b.State) (c : Call) (a : Answer) → History b m g h t s → Formed c → Does b m t s c a u r
       → History b m g ((c, a) ∷ h) u r
 
 -- how many keys the store has lost since it was last emptied
 abbrev pub keys_lost : {b : Behaviour} {m : Meaning} {g : b.State} {h : List (Call × Answer)}
-    {t : Table} {s : b.State} → History b m g h t s → ℕ
+    {t : TableData} {s : b.State} → History b m g h t s → ℕ
 keys_lost (History.made s e) = 0
 keys_lost (History.then h t u s r c a H f D) = lost_after D (keys_lost H)
 
 -- these calls lead to the table t and the state s, in which the store has lost so many keys
 abbrev pub LeadsTo : (b : Behaviour) (m : Meaning) (g : b.State) (h : List (Call × Answer))
-    → Table → b.State → ℕ → Type 0
+    → TableData → b.State → ℕ → Type 0
 LeadsTo b m g h t s lost = (H : History b m g h t s) × (keys_lost H ≡ lost)
 
 -- the calls of a history

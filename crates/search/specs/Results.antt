@@ -12,7 +12,7 @@ use Rattle.rows.specs.declared.limits.TheConstants.{MOST_VOICES, MOST_ROWS, MOST
 use Rattle.search.specs.Propagation.{round, rounds, size}
 use Rattle.search.specs.Search.{Place}
 use Rattle.rows.specs.Placed.{AllHold, Least, Lawless}
-use Rattle.search.specs.Calls.{Table, Answer, over, place_answer}
+use Rattle.search.specs.Calls.{TableData, Answer, over, place_answer}
 
 -- ---- propagation
 
@@ -53,7 +53,7 @@ pub record Projects (m : Meaning) (rows : List RowData) (s t : List ℕ) : Type 
 
 -- what a table and its store say, whatever the calls were, where the store has lost so many keys
 -- since it was emptied
-pub record Invariant (m : Meaning) (lost : ℕ) (t : Table) (v : View) : Type 0 where
+pub record Invariant (m : Meaning) (lost : ℕ) (t : TableData) (v : View) : Type 0 where
   -- what a finished search has found is the least lawful placing; where it has found none, there is none
   pub found_least : (p : List ℕ) → t.place ≡ Place.found p → Least m t.voices t.rows p
   pub none_lawful : t.place ≡ Place.none → Lawless m t.voices t.rows
@@ -70,7 +70,7 @@ AllLaidOut m [] = Unit {0}
 AllLaidOut m (r ∷ rows) = LaidOut m r × AllLaidOut m rows
 
 -- a table within its limits
-pub record Limited (m : Meaning) (t : Table) : Type 0 where
+pub record Limited (m : Meaning) (t : TableData) : Type 0 where
   pub voices : length t.voices ≤ MOST_VOICES
   pub sets : Proper t.voices
   pub rows : length t.rows ≤ MOST_ROWS
@@ -107,7 +107,7 @@ pub record Reads (m : Meaning) (voices : List ℕ) (rows : List RowData) (buffer
   pub bytes : Bytes b
 
 -- an accepted Solve with this budget
-pub record Budgeted (t : Table) (budget : ℕ) (a : Answer) (u : Table) : Type 0 where
+pub record Budgeted (t : TableData) (budget : ℕ) (a : Answer) (u : TableData) : Type 0 where
   -- it opens at most the budget, and says stopped exactly when it opened that many and the search is not over
   pub at_least : t.opened ≤ u.opened
   pub at_most : u.opened ≤ t.opened + budget

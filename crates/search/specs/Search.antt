@@ -4,7 +4,7 @@ use Rattle.sets.specs.Sets.{fixed, least, only}
 use Rattle.sets.specs.Placings.{some_empty, all_fixed, values}
 use Rattle.rows.specs.Rows.{RowData, Meaning}
 use Rattle.stores.specs.Keys.{key}
-use Rattle.stores.specs.Stores.{member, View}
+use Rattle.stores.specs.Stores.{is_held, View}
 use Rattle.stores.specs.Behaviours.{Behaviour}
 use Rattle.stores.specs.declared.store.Stored.TheVariants.{Kept, Lost}
 use Rattle.search.specs.Propagation.{propagated}
@@ -65,7 +65,7 @@ node m rows v k s =
           elim (all_fixed (drop k s)) [
             | true ↦ solution (values s)
             | false ↦
-                elim (member (key m rows s) v.held) [ true ↦ hit | false ↦ branch (level_of k s) ]
+                elim (is_held (key m rows s) v.held) [ true ↦ hit | false ↦ branch (level_of k s) ]
           ]
     ]
 

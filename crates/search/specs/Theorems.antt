@@ -9,7 +9,7 @@ use Rattle.search.specs.Propagation.{propagated}
 use Rattle.search.specs.Search.{Place, Level, Steps}
 use Rattle.rows.specs.Placed.{AllAccepted, Lawful, SameLeast}
 use Rattle.rows.specs.Reasons.{Judgement}
-use Rattle.search.specs.Calls.{Table, Call, Answer, reasons, judged, over, OpensNodes, Does}
+use Rattle.search.specs.Calls.{TableData, Call, Answer, reasons, judged, over, OpensNodes, Does}
 use Rattle.search.specs.Calls.Call.{solve, read}
 use Rattle.search.specs.Histories.{History, keys_lost, calls_in, declared_voices, posted_rows}
 use Rattle.search.specs.Results.{Propagates, Projects, Invariant, Limited, SolveMeans, finished, Reads, Budgeted, reason_fits}
@@ -38,72 +38,72 @@ KeysProject = (m : Meaning) → Laws m → (rows : List RowData) (s t : List ℕ
 
 -- What holds after every history: a found result is the least lawful placing, none says that there is none, keys and nodes are counted right.
 abbrev pub InvariantHolds : Behaviour → Type 0
-InvariantHolds b = (m : Meaning) → Laws m → (g : b.State) (h : List (Call × Answer)) (t : Table)
+InvariantHolds b = (m : Meaning) → Laws m → (g : b.State) (h : List (Call × Answer)) (t : TableData)
     (s : b.State) (H : History b m g h t s) → Invariant m (keys_lost H) t (b.view s)
 
 -- After every history, and after each node that a Solve then opens: levels and nodes branch on the lowest voice that is not fixed.
 abbrev pub BranchesLowest : Behaviour → Type 0
-BranchesLowest b = (m : Meaning) → Laws m → (g : b.State) (h : List (Call × Answer)) (t : Table) (s : b.State) → History b m g h t s
-    → (n lost : ℕ) (u : Table) (r : b.State) → OpensNodes b m n t s u r lost
+BranchesLowest b = (m : Meaning) → Laws m → (g : b.State) (h : List (Call × Answer)) (t : TableData) (s : b.State) → History b m g h t s
+    → (n lost : ℕ) (u : TableData) (r : b.State) → OpensNodes b m n t s u r lost
     → TableLowest m u (b.view r)
 
 -- So much is known of the levels with no law of the bank: the voices ascend strictly, and each is one of its node's.
 abbrev pub LevelsRise : Behaviour → Type 0
-LevelsRise b = (m : Meaning) (g : b.State) (h : List (Call × Answer)) (t : Table) (s : b.State) → History b m g h t s
-    → (n lost : ℕ) (u : Table) (r : b.State) → OpensNodes b m n t s u r lost
+LevelsRise b = (m : Meaning) (g : b.State) (h : List (Call × Answer)) (t : TableData) (s : b.State) → History b m g h t s
+    → (n lost : ℕ) (u : TableData) (r : b.State) → OpensNodes b m n t s u r lost
     → (l : Level) (ls : List Level) → u.place ≡ Place.going l ls → Rising (l ∷ ls)
 
 -- A key that goes to the store when a node is exhausted is not held already, at every node that a Solve opens after any history.
 abbrev pub NeverTwice : Behaviour → Type 0
-NeverTwice b = (m : Meaning) → Laws m → (g : b.State) (h : List (Call × Answer)) (t : Table) (s : b.State) → History b m g h t s
-    → (n lost : ℕ) (u : Table) (r : b.State) → OpensNodes b m n t s u r lost
+NeverTwice b = (m : Meaning) → Laws m → (g : b.State) (h : List (Call × Answer)) (t : TableData) (s : b.State) → History b m g h t s
+    → (n lost : ℕ) (u : TableData) (r : b.State) → OpensNodes b m n t s u r lost
     → (p : Place) (x : b.State) (i k : ℕ) (S : Steps b m u.voices u.rows u.place r p x i k) → StepsNew S
 
 -- ---- answers
 
 -- Wherever in a history Solve answered: found p, then p is the least lawful placing of the voices and rows given before it; none, then there is none.
 abbrev pub AnswersHold : Behaviour → Type 0
-AnswersHold b = (m : Meaning) → Laws m → (g : b.State) (later before : List (Call × Answer)) (budget : ℕ) (a : Answer) (t : Table) (s : b.State)
+AnswersHold b = (m : Meaning) → Laws m → (g : b.State) (later before : List (Call × Answer)) (budget : ℕ) (a : Answer) (t : TableData) (s : b.State)
     → History b m g (later ++ ((solve budget, a) ∷ before)) t s → SolveMeans m (declared_voices before) (posted_rows m before) a
 
 -- Wherever Read wrote: the least lawful placing of the voices and rows given before it.
 abbrev pub ReadsHold : Behaviour → Type 0
-ReadsHold b = (m : Meaning) → Laws m → (g : b.State) (later before : List (Call × Answer)) (buffer : List ℕ) (n : ℕ) (left : List ℕ) (t : Table) (s : b.State)
+ReadsHold b = (m : Meaning) → Laws m → (g : b.State) (later before : List (Call × Answer)) (buffer : List ℕ) (n : ℕ) (left : List ℕ) (t : TableData) (s : b.State)
     → History b m g (later ++ ((read buffer, Answer.wrote n left) ∷ before)) t s → Reads m (declared_voices before) (posted_rows m before) buffer n left
 
 -- A table's voices and rows are those that its calls have given.
 abbrev pub TablesGiven : Behaviour → Type 0
-TablesGiven b = (m : Meaning) (g : b.State) (h : List (Call × Answer)) (t : Table) (s : b.State) → History b m g h t s → (t.voices ≡ declared_voices h) × (t.rows ≡ posted_rows m h)
+TablesGiven b = (m : Meaning) (g : b.State) (h : List (Call × Answer)) (t : TableData) (s : b.State) → History b m g h t s → (t.voices ≡ declared_voices h) × (t.rows ≡ posted_rows m h)
 
 -- Two results of Solve, anywhere in two histories over any banks and stores, are equal exactly when the two tables have the same least lawful placing or
 -- neither has any.
 abbrev pub ResultsAgree : Behaviour → Behaviour → Type 0
 ResultsAgree b b' = (m m' : Meaning) → Laws m → Laws m' → (g : b.State) (g' : b'.State) (later later' h h' : List (Call × Answer)) (budget budget' : ℕ) (a a' : Answer)
-    (t t' : Table) (s : b.State) (s' : b'.State)
+    (t t' : TableData) (s : b.State) (s' : b'.State)
     → History b m g (later ++ ((solve budget, a) ∷ h)) t s → History b' m' g' (later' ++ ((solve budget', a') ∷ h')) t' s' → finished a ≡ true → finished a' ≡ true
     → (a ≡ a') ↔ SameLeast m (declared_voices h) (posted_rows m h) m' (declared_voices h') (posted_rows m' h')
 
 -- An accepted Solve opens at most its budget, and says stopped exactly when it opened that many and the search is not over.
 abbrev pub SolveKeepsBudget : Behaviour → Type 0
-SolveKeepsBudget b = (m : Meaning) (t : Table) (s : b.State) (budget : ℕ) (a : Answer) (u : Table) (r : b.State)
+SolveKeepsBudget b = (m : Meaning) (t : TableData) (s : b.State) (budget : ℕ) (a : Answer) (u : TableData) (r : b.State)
     → judged m t (solve budget) ≡ Judgement.passes → Does b m t s (solve budget) a u r → Budgeted t budget a u × (over t.place ≡ true → r ≡ s)
 
 -- A call is declined under the smallest number that fits, and passes exactly when none does.
 abbrev pub RefusalsSmallest : Type 0
-RefusalsSmallest = (m : Meaning) (t : Table) (c : Call)
+RefusalsSmallest = (m : Meaning) (t : TableData) (c : Call)
     → ((n : ℕ) → (judged m t c ≡ Judgement.declined n) ↔ ((reason_fits n (reasons m t c) ≡ true) × ((k : ℕ) → k < n → reason_fits k (reasons m t c) ≡ false)))
     × ((judged m t c ≡ Judgement.passes) ↔ ((k : ℕ) → reason_fits k (reasons m t c) ≡ false))
 
 -- No history passes the limits of a table.
 abbrev pub LimitsHold : Behaviour → Type 0
-LimitsHold b = (m : Meaning) (g : b.State) (h : List (Call × Answer)) (t : Table) (s : b.State) → History b m g h t s → Limited m t
+LimitsHold b = (m : Meaning) (g : b.State) (h : List (Call × Answer)) (t : TableData) (s : b.State) → History b m g h t s → Limited m t
 
 -- ---- stores
 
 -- Over a store of which nothing is open, every call comes to something, and to one thing only: one
 -- answer, one table, one state of the store, and one number of keys lost.
 abbrev pub OneOutcome : Behaviour → Type 0
-OneOutcome b = (m : Meaning) (t : Table) (s : b.State) (c : Call)
+OneOutcome b = (m : Meaning) (t : TableData) (s : b.State) (c : Call)
     → CallOutcome b m t s c
     × ((x y : CallOutcome b m t s c)
     → (x.answer ≡ y.answer) × (x.table ≡ y.table) × (x.state ≡ y.state) × SameLost x.does y.does)
@@ -112,7 +112,7 @@ OneOutcome b = (m : Meaning) (t : Table) (s : b.State) (c : Call)
 -- answers and lead to the same table, counts and all, and the same state of the store, which has
 -- lost as many keys in the one as in the other.
 abbrev pub OneHistory : Behaviour → Type 0
-OneHistory b = (m : Meaning) (g : b.State) (h h' : List (Call × Answer)) (t t' : Table)
+OneHistory b = (m : Meaning) (g : b.State) (h h' : List (Call × Answer)) (t t' : TableData)
     (s s' : b.State) (H : History b m g h t s) (H' : History b m g h' t' s')
     → calls_in h ≡ calls_in h' → (h ≡ h') × (t ≡ t') × (s ≡ s') × (keys_lost H ≡ keys_lost H')
 
@@ -120,8 +120,8 @@ OneHistory b = (m : Meaning) (g : b.State) (h h' : List (Call × Answer)) (t t' 
 -- answer and leaves the same table, counts and all, and the same keys; and where both stores had
 -- lost as many keys before it, they have lost as many after it. (A call other than Solve loses none.)
 abbrev pub StoresAgree : Behaviour → Behaviour → Type 0
-StoresAgree b b' = (m : Meaning) (t : Table) (s : b.State) (s' : b'.State) (c : Call)
-    (a a' : Answer) (u u' : Table) (r : b.State) (r' : b'.State)
+StoresAgree b b' = (m : Meaning) (t : TableData) (s : b.State) (s' : b'.State) (c : Call)
+    (a a' : Answer) (u u' : TableData) (r : b.State) (r' : b'.State)
     → SameKeys (b.view s) (b'.view s')
     → (D : Does b m t s c a u r) (D' : Does b' m t s' c a' u' r') → LosesNone D → LosesNone D'
     → (a ≡ a') × (u ≡ u') × SameKeys (b.view r) (b'.view r') × SameLost D D'

@@ -14,7 +14,7 @@ use Rattle.rows.proofs.RowBytes.{row_same}
 use Rattle.stores.specs.Behaviours.{Behaviour}
 use Rattle.stores.specs.Bare.{bare}
 use Rattle.rows.specs.Reasons.{Judgement}
-use Rattle.search.specs.Calls.{Table, begun, Call, Answer, reasons, judged, Does}
+use Rattle.search.specs.Calls.{TableData, begun, Call, Answer, reasons, judged, Does}
 use Rattle.search.specs.Calls.Call.{declare, post}
 use Rattle.search.specs.Calls.Answer.{done}
 use Rattle.search.specs.Histories.{History, LeadsTo}
@@ -89,7 +89,7 @@ row_bytes m voices rows bs r h b =
     (f, back.1, ap (λ (x : List ℕ). x ++ drop (length r) bs) h.front ∙ take-append-drop (length r) bs, back.0)
 
 -- a row that passes has a byte
-pub some_row : (m : Meaning) (t : Table) (r : List ℕ) → judged m t (post r) ≡ Judgement.passes → 0 < length r
+pub some_row : (m : Meaning) (t : TableData) (r : List ℕ) → judged m t (post r) ≡ Judgement.passes → 0 < length r
 some_row m t r j = ltb-true 0 (length r) (and_parts (ltb 0 (length r)) (m.known (get_or r 0 0)) (not-false (lettered m r) (none_fits (reasons m t (post r)) j).0)).0
 
 -- ---- reading on

@@ -7,7 +7,7 @@ use Rattle.rows.specs.Bytes.{Bytes, decode}
 use Rattle.stores.specs.Behaviours.{Behaviour}
 use Rattle.stores.specs.Bare.{bare}
 use Rattle.rows.specs.Reasons.{Judgement}
-use Rattle.search.specs.Calls.{Table, begun, empty, Answer, judged, Does}
+use Rattle.search.specs.Calls.{TableData, begun, empty, Answer, judged, Does}
 use Rattle.search.specs.Calls.Call.{declare, post, wipe}
 use Rattle.table.specs.declared.refusal.Refusal.{Refusal}
 use Rattle.table.specs.Refusals.{refusal_number}
@@ -24,7 +24,7 @@ use Rattle.sheets.proofs.Loaded.{ReadSo, BareRead, none_read, one_voice, one_row
 
 -- ---- a record whose call was made
 
-module _ (b : Behaviour) (m : Meaning) (t u : Table) (v w : b.State) where
+module _ (b : Behaviour) (m : Meaning) (t u : TableData) (v w : b.State) where
   -- the call was accepted
   passed : (j : Judgement) (i : RecordReading) (n : ℕ) → j ≡ Judgement.passes → record_length n ≡ reading_record_answer i → u ≡ record_table m t.voices t.rows i → RecordStored b i v w
       → RecordRead b m t v (if_passes j i) (Ok (Some n)) u w
@@ -37,26 +37,26 @@ module _ (b : Behaviour) (m : Meaning) (t u : Table) (v w : b.State) where
       subst (λ (x : Judgement). RecordRead b m t v (if_passes x i) r u w) (sym d.0)
       (record { answer = ap record_answer e; table = d.1 ∙ U; store = d.2 })
 
-declared_by : (b : Behaviour) (m : Meaning) (t u : Table) (v w : b.State) (s : ℕ) → Does b m t v (declare s) Answer.done u w
+declared_by : (b : Behaviour) (m : Meaning) (t u : TableData) (v w : b.State) (s : ℕ) → Does b m t v (declare s) Answer.done u w
     → (judged m t (declare s) ≡ Judgement.passes) × (u ≡ begun (t.voices ++ (s ∷ [])) t.rows) × b.empties v w
 declared_by b m t u v w s (Does.declares s' w' j e) = (j, refl, e)
 
-posted_by : (b : Behaviour) (m : Meaning) (t u : Table) (v w : b.State) (bs : List ℕ) → Does b m t v (post bs) Answer.done u w
+posted_by : (b : Behaviour) (m : Meaning) (t u : TableData) (v w : b.State) (bs : List ℕ) → Does b m t v (post bs) Answer.done u w
     → (judged m t (post bs) ≡ Judgement.passes) × (u ≡ begun t.voices (t.rows ++ (decode m bs ∷ []))) × b.empties v w
 posted_by b m t u v w bs (Does.posts bs' w' j e) = (j, refl, e)
 
-declare_declined : (b : Behaviour) (m : Meaning) (t u : Table) (v w : b.State) (s n : ℕ) → Does b m t v (declare s) (Answer.refused n) u w
+declare_declined : (b : Behaviour) (m : Meaning) (t u : TableData) (v w : b.State) (s n : ℕ) → Does b m t v (declare s) (Answer.refused n) u w
     → (judged m t (declare s) ≡ Judgement.declined n) × (u ≡ t) × (w ≡ v)
 declare_declined b m t u v w s n (Does.declines c n' j) = (j, refl, refl)
 
-post_declined : (b : Behaviour) (m : Meaning) (t u : Table) (v w : b.State) (bs : List ℕ) (n : ℕ) → Does b m t v (post bs) (Answer.refused n) u w
+post_declined : (b : Behaviour) (m : Meaning) (t u : TableData) (v w : b.State) (bs : List ℕ) (n : ℕ) → Does b m t v (post bs) (Answer.refused n) u w
     → (judged m t (post bs) ≡ Judgement.declined n) × (u ≡ t) × (w ≡ v)
 post_declined b m t u v w bs n (Does.declines c n' j) = (j, refl, refl)
 
-pub at_reading : (b : Behaviour) (m : Meaning) (t u : Table) (v w : b.State) (i i' : RecordReading) (r : Result (Option ℕ) RecordRefusal) → i' ≡ i → RecordRead b m t v i r u w → RecordRead b m t v i' r u w
+pub at_reading : (b : Behaviour) (m : Meaning) (t u : TableData) (v w : b.State) (i i' : RecordReading) (r : Result (Option ℕ) RecordRefusal) → i' ≡ i → RecordRead b m t v i r u w → RecordRead b m t v i' r u w
 at_reading b m t u v w i i' r e h = subst (λ (x : RecordReading). RecordRead b m t v x r u w) (sym e) h
 
-module _ (b : Behaviour) (m : Meaning) (t u : Table) (v w : b.State) where
+module _ (b : Behaviour) (m : Meaning) (t u : TableData) (v w : b.State) where
   pub voice_declared : (s : ℕ) → Does b m t v (declare s) Answer.done u w → RecordRead b m t v (if_passes (judged m (begun t.voices t.rows) (declare s)) (voice s)) (Ok (Some 9)) u w
   voice_declared s D =
       let d = declared_by b m t u v w s D in
@@ -81,7 +81,7 @@ module _ (b : Behaviour) (m : Meaning) (t u : Table) (v w : b.State) where
 -- ---- the records so far
 
 -- Records were read up to the place `at`, from the state w on: reading on gives what reading the sheet gives.
-pub record SoFar (b : Behaviour) (m : Meaning) (bs : List ℕ) (w : b.State) (t : Table) (v : b.State) (at : ℕ) : Type 0 where
+pub record SoFar (b : Behaviour) (m : Meaning) (bs : List ℕ) (w : b.State) (t : TableData) (v : b.State) (at : ℕ) : Type 0 where
   pub unsearched : Unsearched t
   pub inside : at ≤ length bs
   pub bound : ℕ
@@ -90,8 +90,8 @@ pub record SoFar (b : Behaviour) (m : Meaning) (bs : List ℕ) (w : b.State) (t 
   pub read : ReadSo b m bs w at t.voices t.rows (drop at bs) v
   pub bare_read : BareRead m bs at t.voices t.rows (drop at bs)
 
-pub none_so_far : (b : Behaviour) (m : Meaning) (bs : List ℕ) (w : b.State) (t : Table) → Bytes bs → t ≡ empty → SoFar b m bs w t w 0
-none_so_far b m bs w t f e = subst (λ (x : Table). SoFar b m bs w x w 0) (sym e) (record {
+pub none_so_far : (b : Behaviour) (m : Meaning) (bs : List ℕ) (w : b.State) (t : TableData) → Bytes bs → t ≡ empty → SoFar b m bs w t w 0
+none_so_far b m bs w t f e = subst (λ (x : TableData). SoFar b m bs w x w 0) (sym e) (record {
   unsearched = refl;
   inside = omega arith;
   bound = suc (length bs);
@@ -102,11 +102,11 @@ none_so_far b m bs w t f e = subst (λ (x : Table). SoFar b m bs w x w 0) (sym e
 })
 
 -- where the rest begins with a record of n bytes
-pub record Longer (b : Behaviour) (m : Meaning) (bs : List ℕ) (w : b.State) (u : Table) (x : b.State) (at n : ℕ) : Type 0 where
+pub record Longer (b : Behaviour) (m : Meaning) (bs : List ℕ) (w : b.State) (u : TableData) (x : b.State) (at n : ℕ) : Type 0 where
   pub some : 0 < n
   pub so_far : SoFar b m bs w u x (at + n)
 
-module _ (b : Behaviour) (m : Meaning) (bs : List ℕ) (w : b.State) (t : Table) (v : b.State) (at : ℕ) (S : SoFar b m bs w t v at) where
+module _ (b : Behaviour) (m : Meaning) (bs : List ℕ) (w : b.State) (t : TableData) (v : b.State) (at : ℕ) (S : SoFar b m bs w t v at) where
   -- the rest, one record further
   on : (i : RecordReading) → read_record m t.voices t.rows (drop at bs) ≡ i
       → (k : ℕ) × (length bs < at + suc k) × (read_on m (read_from m k) at t.voices t.rows (drop at bs) i ≡ read_sheet m bs)
@@ -117,7 +117,7 @@ module _ (b : Behaviour) (m : Meaning) (bs : List ℕ) (w : b.State) (t : Table)
       on_by zero l s = absurd (omega (arith, S.inside))
       on_by (suc k) l s = (k, l, ap (read_on m (read_from m k) at t.voices t.rows (drop at bs)) (sym e) ∙ s)
 
-  pub further : (n : ℕ) (u : Table) (x : b.State) → RecordRead b m t v (read_record m t.voices t.rows (drop at bs)) (Ok (Some n)) u x → Longer b m bs w u x at n
+  pub further : (n : ℕ) (u : TableData) (x : b.State) → RecordRead b m t v (read_record m t.voices t.rows (drop at bs)) (Ok (Some n)) u x → Longer b m bs w u x at n
   further n u x h = by (read_record m t.voices t.rows (drop at bs)) refl h.answer h.table h.store
     where
       by : (i : RecordReading) → read_record m t.voices t.rows (drop at bs) ≡ i → record_length n ≡ reading_record_answer i → u ≡ record_table m t.voices t.rows i → RecordStored b i v x → Longer b m bs w u x at n
@@ -141,7 +141,7 @@ module _ (b : Behaviour) (m : Meaning) (bs : List ℕ) (w : b.State) (t : Table)
                   (one_voice bare m bs tt at t.voices t.rows (drop at bs) tt tt s S.bare_read here tt);
             };
           } in
-          subst (λ (y : ℕ). Longer b m bs w u x at y) (sym nine) (subst (λ (y : Table). Longer b m bs w y x at 9) (sym g) next)
+          subst (λ (y : ℕ). Longer b m bs w u x at y) (sym nine) (subst (λ (y : TableData). Longer b m bs w y x at 9) (sym g) next)
       by (row r) e f g k =
           let here = row_here m t.voices t.rows (drop at bs) r e in
           let rest = on (row r) e in
@@ -161,10 +161,10 @@ module _ (b : Behaviour) (m : Meaning) (bs : List ℕ) (w : b.State) (t : Table)
                   (one_row bare m bs tt at t.voices t.rows (drop at bs) r tt tt S.bare_read here tt);
             };
           } in
-          subst (λ (y : ℕ). Longer b m bs w u x at y) (sym long) (subst (λ (y : Table). Longer b m bs w y x at (length r)) (sym g) next)
+          subst (λ (y : ℕ). Longer b m bs w u x at y) (sym long) (subst (λ (y : TableData). Longer b m bs w y x at (length r)) (sym g) next)
       by (fault k' o l) e f g k = let z : ◌≡◌ {A = ℕ} 0 1 = cc in absurd (omega arith)
 
-  pub ended : (u : Table) (x : b.State) → RecordRead b m t v (read_record m t.voices t.rows (drop at bs)) (Ok None) u x
+  pub ended : (u : TableData) (x : b.State) → RecordRead b m t v (read_record m t.voices t.rows (drop at bs)) (Ok None) u x
       → RecordsRead b m bs w u x (read_sheet m bs) (Ok tt)
   ended u x h = by (read_record m t.voices t.rows (drop at bs)) refl h.answer h.table h.store
     where
@@ -178,7 +178,7 @@ module _ (b : Behaviour) (m : Meaning) (bs : List ℕ) (w : b.State) (t : Table)
       by (row r) e f g k = let z : ◌≡◌ {A = ℕ} 0 1 = cc in absurd (omega arith)
       by (fault k' o l) e f g k = let z : ◌≡◌ {A = ℕ} 0 1 = cc in absurd (omega arith)
 
-  pub faulted : Laws m → (cause : RecordRefusal) (place : ℕ) (u : Table) (x : b.State) → place ≡ at + cause_offset cause
+  pub faulted : Laws m → (cause : RecordRefusal) (place : ℕ) (u : TableData) (x : b.State) → place ≡ at + cause_offset cause
       → RecordRead b m t v (read_record m t.voices t.rows (drop at bs)) (Err cause) u x
       → RecordsRead b m bs w u x (read_sheet m bs) (Err (record { cause = cause; place = place }))
   faulted L cause place u x p h = by (read_record m t.voices t.rows (drop at bs)) refl h.answer h.table h.store
@@ -206,27 +206,27 @@ module _ (b : Behaviour) (m : Meaning) (bs : List ℕ) (w : b.State) (t : Table)
 
 -- ---- the same, with the rest of the bytes at hand
 
-pub record Left (b : Behaviour) (m : Meaning) (bs : List ℕ) (w : b.State) (t : Table) (v : b.State) (rest : List ℕ) : Type 0 where
+pub record Left (b : Behaviour) (m : Meaning) (bs : List ℕ) (w : b.State) (t : TableData) (v : b.State) (rest : List ℕ) : Type 0 where
   pub so_far : SoFar b m bs w t v (length bs - length rest)
   pub rest-is : rest ≡ drop (length bs - length rest) bs
 
-pub all_left : (b : Behaviour) (m : Meaning) (bs : List ℕ) (w : b.State) (t : Table) → Bytes bs → t ≡ empty → Left b m bs w t w bs
+pub all_left : (b : Behaviour) (m : Meaning) (bs : List ℕ) (w : b.State) (t : TableData) → Bytes bs → t ≡ empty → Left b m bs w t w bs
 all_left b m bs w t f e =
     let none : 0 ≡ length bs - length bs = omega arith in
     record { so_far = subst (SoFar b m bs w t w) none (none_so_far b m bs w t f e); rest-is = ap (λ (n : ℕ). drop n bs) none }
 
-module _ {b : Behaviour} {m : Meaning} {bs : List ℕ} {w : b.State} {t : Table} {v : b.State} {rest : List ℕ} (L : Left b m bs w t v rest) where
+module _ {b : Behaviour} {m : Meaning} {bs : List ℕ} {w : b.State} {t : TableData} {v : b.State} {rest : List ℕ} (L : Left b m bs w t v rest) where
   pub left_inside : length rest ≤ length bs
   left_inside = omega (arith, ap length L.rest-is, length-drop (length bs - length rest) bs)
 
-  pub at_left : {u : Table} {x : b.State} {r s : Result (Option ℕ) RecordRefusal} → r ≡ s → RecordRead b m t v (read_record m t.voices t.rows rest) r u x
+  pub at_left : {u : TableData} {x : b.State} {r s : Result (Option ℕ) RecordRefusal} → r ≡ s → RecordRead b m t v (read_record m t.voices t.rows rest) r u x
       → RecordRead b m t v (read_record m t.voices t.rows (drop (length bs - length rest) bs)) s u x
   at_left {u} {x} {r} {s} e h =
       let i = read_record m t.voices t.rows (drop (length bs - length rest) bs) in
       subst (λ (y : Result (Option ℕ) RecordRefusal). RecordRead b m t v i y u x) e (at_reading b m t u v x (read_record m t.voices t.rows rest) i r (ap (read_record m t.voices t.rows) (sym L.rest-is)) h)
 
   -- one record further
-  pub more_left : {u : Table} {x : b.State} {r : Result (Option ℕ) RecordRefusal} (n : ℕ) → r ≡ Ok (Some n) → RecordRead b m t v (read_record m t.voices t.rows rest) r u x
+  pub more_left : {u : TableData} {x : b.State} {r : Result (Option ℕ) RecordRefusal} (n : ℕ) → r ≡ Ok (Some n) → RecordRead b m t v (read_record m t.voices t.rows rest) r u x
       → (0 < n) × (n ≤ length rest) × Left b m bs w u x (drop n rest)
   more_left {u} {x} n e h =
       let l = further b m bs w t v (length bs - length rest) L.so_far n u x (at_left e h) in
@@ -241,5 +241,5 @@ module _ {b : Behaviour} {m : Meaning} {bs : List ℕ} {w : b.State} {t : Table}
 
 -- ---- a Load's end
 
-pub wiped : (b : Behaviour) (m : Meaning) (t u : Table) (v w : b.State) → Does b m t v wipe Answer.done u w → (u ≡ empty) × b.empties v w
+pub wiped : (b : Behaviour) (m : Meaning) (t u : TableData) (v w : b.State) → Does b m t v wipe Answer.done u w → (u ≡ empty) × b.empties v w
 wiped b m t u v w (Does.wipes w' e) = (refl, e)

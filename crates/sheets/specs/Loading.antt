@@ -5,7 +5,7 @@ use Rattle.rows.specs.Rows.{RowData, Meaning}
 use Rattle.rows.specs.Bytes.{decode}
 use Rattle.stores.specs.declared.store.Store as store
 use Rattle.stores.specs.Behaviours.{Behaviour}
-use Rattle.search.specs.Calls.{Table, Call, Answer, begun, empty}
+use Rattle.search.specs.Calls.{TableData, Call, Answer, begun, empty}
 use Rattle.search.specs.Calls.Call.{wipe}
 use Rattle.search.specs.Calls.Answer.{done}
 use Rattle.search.specs.Histories.{History, LeadsTo}
@@ -42,7 +42,7 @@ reading_answer (refused number place layer) = declined number place layer
 -- ---- what a Load leaves
 
 -- the table that a Load leaves: its search has not begun; after a refused one it is empty
-abbrev pub table_after : SheetReading → Table
+abbrev pub table_after : SheetReading → TableData
 table_after (accepted voices rows) = begun voices rows
 table_after (refused n place layer) = empty
 
@@ -51,7 +51,7 @@ table_after (refused n place layer) = empty
 -- accepted; where it is refused, by those of the records before the first fault, and a Wipe. No
 -- key is lost then, since each of these calls empties the store.
 abbrev pub FillHistory : (b : Behaviour) (m : Meaning) (g : b.State) (h : List (Call × Answer))
-    (bytes : List ℕ) → SheetReading → Table → b.State → Type 0
+    (bytes : List ℕ) → SheetReading → TableData → b.State → Type 0
 FillHistory b m g h bytes (accepted voices rows) u r =
     LeadsTo b m g (posted_after (declared_after h voices) rows) u r 0
 FillHistory b m g h bytes (refused number place layer) u r =
@@ -60,21 +60,21 @@ FillHistory b m g h bytes (refused number place layer) u r =
 
 -- a Load is a Wipe, and then these
 abbrev pub LoadHistory : (b : Behaviour) (m : Meaning) (g : b.State) (h : List (Call × Answer))
-    (bytes : List ℕ) → SheetReading → Table → b.State → Type 0
+    (bytes : List ℕ) → SheetReading → TableData → b.State → Type 0
 LoadHistory b m g h = FillHistory b m g ((wipe, done) ∷ h)
 
 -- Whatever the table was, over its store in the state s: it is that of the sheet's voices and rows,
 -- or an empty one, its search not begun; and it is with its store as if it had been made over that
 -- store, and then so filled.
 pub record LoadLeaves (b : Behaviour) (m : Meaning) (bytes : List ℕ) (s : b.State)
-    (u : Table) (r : b.State) : Type 0 where
+    (u : TableData) (r : b.State) : Type 0 where
   pub table : u ≡ table_after (read_sheet m bytes)
   pub history : FillHistory b m s [] bytes (read_sheet m bytes) u r
   pub invariant : Invariant m 0 u (b.view r)
 
 -- Whatever the calls were that led to an empty table and the state s, in which no key was lost: so it
 -- is after the records; and what holds after every history holds.
-pub record FillExtends (b : Behaviour) (m : Meaning) (s : b.State) (bytes : List ℕ) (u : Table)
+pub record FillExtends (b : Behaviour) (m : Meaning) (s : b.State) (bytes : List ℕ) (u : TableData)
     (r : b.State) : Type 0 where
   pub history : (g : b.State) (h : List (Call × Answer)) → LeadsTo b m g h empty s 0
       → FillHistory b m g h bytes (read_sheet m bytes) u r
@@ -83,8 +83,8 @@ pub record FillExtends (b : Behaviour) (m : Meaning) (s : b.State) (bytes : List
 
 -- Whatever the calls were that led to the table t and the state s: so it is then; and what holds
 -- after every history holds.
-pub record LoadExtends (b : Behaviour) (m : Meaning) (t : Table) (s : b.State) (bytes : List ℕ)
-    (u : Table) (r : b.State) : Type 0 where
+pub record LoadExtends (b : Behaviour) (m : Meaning) (t : TableData) (s : b.State) (bytes : List ℕ)
+    (u : TableData) (r : b.State) : Type 0 where
   pub history : (g : b.State) (h : List (Call × Answer)) → History b m g h t s
       → LoadHistory b m g h bytes (read_sheet m bytes) u r
   pub invariant : (g : b.State) (h : List (Call × Answer)) → History b m g h t s
@@ -125,14 +125,14 @@ reading_record_answer (row r) = record_length (length r)
 reading_record_answer (fault number offset layer) = record_fault number offset layer
 
 -- the table after a record, where it had these voices and rows
-abbrev pub record_table : Meaning → List ℕ → List RowData → RecordReading → Table
+abbrev pub record_table : Meaning → List ℕ → List RowData → RecordReading → TableData
 record_table m voices rows last = begun voices rows
 record_table m voices rows (voice s) = begun (voices ++ (s ∷ [])) rows
 record_table m voices rows (row r) = begun voices (rows ++ (decode m r ∷ []))
 record_table m voices rows (fault number offset layer) = begun voices rows
 
 -- a table whose search has not begun
-abbrev pub Unsearched : Table → Type 0
+abbrev pub Unsearched : TableData → Type 0
 Unsearched t = t ≡ begun t.voices t.rows
 
 -- the store after a record: an accepted Declare or Post empties it
@@ -143,8 +143,8 @@ RecordStored b (row bs) s r = b.empties s r
 RecordStored b (fault number offset layer) s r = r ≡ s
 
 -- a record is read: the answer, and the table and the store then
-pub record RecordRead (b : Behaviour) (m : Meaning) (t : Table) (s : b.State) (i : RecordReading)
-    (res : Result (Option ℕ) RecordRefusal) (u : Table) (r : b.State) : Type 0 where
+pub record RecordRead (b : Behaviour) (m : Meaning) (t : TableData) (s : b.State) (i : RecordReading)
+    (res : Result (Option ℕ) RecordRefusal) (u : TableData) (r : b.State) : Type 0 where
   pub answer : record_answer res ≡ reading_record_answer i
   pub table : u ≡ record_table m t.voices t.rows i
   pub store : RecordStored b i s r
@@ -160,7 +160,7 @@ Fills b m s voices rows r =
 
 -- all records are read, up to the sheet's end or its first fault
 pub data RecordsRead (b : Behaviour) (m : Meaning) (bytes : List ℕ) (s : b.State)
-    (u : Table) (r : b.State) : SheetReading → Result Unit SheetRefusal → Type 0 where
+    (u : TableData) (r : b.State) : SheetReading → Result Unit SheetRefusal → Type 0 where
   ended : (voices : List ℕ) (rows : List RowData) → u ≡ begun voices rows
       → Fills b m s voices rows r → RecordsRead b m bytes s u r (accepted voices rows) (Ok tt)
   faulted : (cause : RecordRefusal) (place : ℕ)

@@ -22,7 +22,7 @@ module _ {B S : Type 0} {b : bank.Ghosts B} {s : store.Ghosts S} where
 
 -- Whatever the calls were that led to the table t and the state v: its sheet is accepted by Load,
 -- and gives back exactly its voices and rows.
-abbrev pub LoadsAgain : (b : Behaviour) → Meaning → calls.Table → b.State → Type 0
+abbrev pub LoadsAgain : (b : Behaviour) → Meaning → calls.TableData → b.State → Type 0
 LoadsAgain b m t v = (g : b.State) (h : List (Call × Answer)) → History b m g h t v
     → read_sheet m (sheet t.voices t.rows) ≡ accepted t.voices t.rows
 

@@ -5,7 +5,7 @@ use Rattle.std.proofs.lemmas.Bool.{cases_Bool, and_right, lt-leb, eqb-true, eqb-
 use Rattle.std.proofs.Math.Seq.{get_or-append_seam}
 use Rattle.std.specs.Str.{bytes_eq}
 use Rattle.sets.specs.Placings.{same}
-use Rattle.stores.specs.Stores.{member, fits_space}
+use Rattle.stores.specs.Stores.{is_held, fits_space}
 use Rattle.stores.specs.Shelves.{hash_of, bucket, header, words_of, newest, shelf_entry, words_written, keys_in, shelved_keys, recent_keys, Whole, Indexed, room_of, shelf_state, shelf_view}
 use Rattle.stores.specs.ShelfLaws.{member_push}
 use Rattle.stores.proofs.Keeping.{Fitting, fitting, pushed_state}
@@ -135,9 +135,9 @@ recent_push ws k w h = ap reverse (shelved_push ws k w h) ∙ reverse_push (shel
 pub whole_push : (ws k : List ℕ) → Whole ws → length k < 65536 → Whole (ws ++ shelf_entry (recent_keys ws) k)
 whole_push ws k w h = ap words_written (recent_push ws k w h) ∙ ap (λ (x : List ℕ). x ++ shelf_entry (recent_keys ws) k) w
 
-member_reverse : (x : List ℕ) (ks : List (List ℕ)) → member x (reverse ks) ≡ member x ks
+member_reverse : (x : List ℕ) (ks : List (List ℕ)) → is_held x (reverse ks) ≡ is_held x ks
 member_reverse x [] = refl
-member_reverse x (k ∷ ks) = ap (member x) (reverse_more ks k) ∙ member_push x k (reverse ks) ∙ ap (λ (b : Bool). same x k || b) (member_reverse x ks)
+member_reverse x (k ∷ ks) = ap (is_held x) (reverse_more ks k) ∙ member_push x k (reverse ks) ∙ ap (λ (b : Bool). same x k || b) (member_reverse x ks)
 
 -- ---- the chain of a bucket
 
@@ -161,7 +161,7 @@ pub record Newest (b : ℕ) (ks : List (List ℕ)) : Type 0 where
   pub rest : List ℕ
   pub place : newest b ks ≡ words_of before + 1
   pub words : words_written ks ≡ (words_written before ++ (header (newest b before) key ∷ key)) ++ rest
-  pub members : (x : List ℕ) → bucket x ≡ b → member x ks ≡ (same x key || member x before)
+  pub members : (x : List ℕ) → bucket x ≡ b → is_held x ks ≡ (same x key || is_held x before)
   pub short : length key < 65536
   pub shorts : Short before
 
@@ -191,19 +191,19 @@ newest_key b (k ∷ ks) s h = by_bucket (eqb (bucket k) b) refl (newest_key b ks
           rest = n.rest ++ shelf_entry ks k;
           place = at ∙ n.place;
           words = ap (λ (x : List ℕ). x ++ shelf_entry ks k) n.words ∙ append_assoc (words_written n.before ++ (header (newest b n.before) n.key ∷ n.key)) n.rest (shelf_entry ks k);
-          members = λ x d. ap (λ (c : Bool). c || member x ks) (other_bucket x k b d e) ∙ n.members x d;
+          members = λ x d. ap (λ (c : Bool). c || is_held x ks) (other_bucket x k b d e) ∙ n.members x d;
           short = n.short;
           shorts = n.shorts;
         }
 
 -- a bucket with no key
-pub no_newest : (x : List ℕ) (ks : List (List ℕ)) → newest (bucket x) ks ≡ 0 → member x ks ≡ false
+pub no_newest : (x : List ℕ) (ks : List (List ℕ)) → newest (bucket x) ks ≡ 0 → is_held x ks ≡ false
 no_newest x [] h = refl
 no_newest x (k ∷ ks) h = by_bucket (eqb (bucket k) (bucket x)) refl (no_newest x ks)
   where
-    by_bucket : (c : Bool) → eqb (bucket k) (bucket x) ≡ c → (newest (bucket x) ks ≡ 0 → member x ks ≡ false) → member x (k ∷ ks) ≡ false
+    by_bucket : (c : Bool) → eqb (bucket k) (bucket x) ≡ c → (newest (bucket x) ks ≡ 0 → is_held x ks ≡ false) → is_held x (k ∷ ks) ≡ false
     by_bucket true e r = absurd (omega (arith, sym (ap (λ (c : Bool). cond c (words_of ks + 1) (newest (bucket x) ks)) e) ∙ h))
-    by_bucket false e r = ap (λ (c : Bool). c || member x ks) (other_bucket x k (bucket x) refl e) ∙ r (sym (ap (λ (c : Bool). cond c (words_of ks + 1) (newest (bucket x) ks)) e) ∙ h)
+    by_bucket false e r = ap (λ (c : Bool). c || is_held x ks) (other_bucket x k (bucket x) refl e) ∙ r (sym (ap (λ (c : Bool). cond c (words_of ks + 1) (newest (bucket x) ks)) e) ∙ h)
 
 -- ---- a walk along a chain
 
@@ -214,7 +214,7 @@ pub record Walk (used key : List ℕ) (at : ℕ) : Type 0 where
   pub place : at ≡ newest (bucket key) older
   pub words : used ≡ words_written older ++ rest
   pub shorts : Short older
-  pub members : member key (shelved_keys used) ≡ member key older
+  pub members : is_held key (shelved_keys used) ≡ is_held key older
 
 pub walk_begins : (used key : List ℕ) (at : ℕ) → Whole used → at ≡ newest (bucket key) (recent_keys used) → Walk used key at
 walk_begins used key at w e = record {
@@ -226,7 +226,7 @@ walk_begins used key at w e = record {
   members = sym (member_reverse key (shelved_keys used));
 }
 
-pub walk_ends : (used key : List ℕ) (at : ℕ) → Walk used key at → at ≤ 0 → false ≡ member key (shelved_keys used)
+pub walk_ends : (used key : List ℕ) (at : ℕ) → Walk used key at → at ≤ 0 → false ≡ is_held key (shelved_keys used)
 walk_ends used key at w h = sym (w.members ∙ no_newest key w.older (omega (arith, w.place)))
 
 -- the key that a walk stands at, in all the words of which the first n are used
@@ -237,7 +237,7 @@ pub record Stop (all : List ℕ) (n : ℕ) (key : List ℕ) (at : ℕ) : Type 0 
   pub lower : link < at
   pub inside : at + length held ≤ n
   pub words : take (length held) (drop at all) ≡ held
-  pub found : same key held ≡ true → true ≡ member key (shelved_keys (take n all))
+  pub found : same key held ≡ true → true ≡ is_held key (shelved_keys (take n all))
   pub next : same key held ≡ false → Walk (take n all) key link
 
 pub walk_stops : (all : List ℕ) (n : ℕ) (key : List ℕ) (at : ℕ) → n ≤ length all → n ≤ 65536 → Walk (take n all) key at → 0 < at → Stop all n key at
@@ -249,14 +249,14 @@ walk_stops all n key at l r w h = record {
   lower = lower;
   inside = inside;
   words = ap (λ (x : List ℕ). take (length s.key) x) behind ∙ take_at s.key more (length s.key) refl;
-  found = λ e. sym (members ∙ ap (λ (b : Bool). b || member key s.before) e);
+  found = λ e. sym (members ∙ ap (λ (b : Bool). b || is_held key s.before) e);
   next = λ e. record {
     older = s.before;
     rest = (header (newest (bucket key) s.before) s.key ∷ s.key) ++ (s.rest ++ w.rest);
     place = refl;
     words = front;
     shorts = s.shorts;
-    members = members ∙ ap (λ (b : Bool). b || member key s.before) e;
+    members = members ∙ ap (λ (b : Bool). b || is_held key s.before) e;
   };
 }
   where
@@ -275,7 +275,7 @@ walk_stops all n key at l r w h = record {
     more : List ℕ
     more = (s.rest ++ w.rest) ++ drop n all
 
-    members : member key (shelved_keys (take n all)) ≡ (same key s.key || member key s.before)
+    members : is_held key (shelved_keys (take n all)) ≡ (same key s.key || is_held key s.before)
     members = w.members ∙ s.members key refl
 
     front : take n all ≡ words_written s.before ++ ((h0 ∷ s.key) ++ (s.rest ++ w.rest))

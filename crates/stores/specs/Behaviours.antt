@@ -1,6 +1,6 @@
 -- A store's own behaviour: the states that it may be in, what it does to them, and that any store may do so.
 use Rattle.std.specs.Prelude.{◌≡◌, ℕ, cond, List, length}
-use Rattle.stores.specs.Stores.{View, Emptied, Keeps, member}
+use Rattle.stores.specs.Stores.{View, Emptied, Keeps, is_held}
 use Rattle.stores.specs.declared.store.Stored.{Stored}
 use Rattle.stores.specs.declared.store.Stored.TheVariants.{Kept, Lost}
 
@@ -19,8 +19,8 @@ pub record Behaviour : Type 1 where
 
 -- Keep can only alter nothing in the state s: the key k is kept if it is held, and lost otherwise
 pub record Unaltered (b : Behaviour) (s : b.State) (k : List ℕ) : Type 0 where
-  pub may : b.keeps s k (cond (member k (b.view s).held) Kept Lost) s
-  pub only : (a : Stored) (t : b.State) → b.keeps s k a t → (a ≡ cond (member k (b.view s).held) Kept Lost) × (t ≡ s)
+  pub may : b.keeps s k (cond (is_held k (b.view s).held) Kept Lost) s
+  pub only : (a : Stored) (t : b.State) → b.keeps s k a t → (a ≡ cond (is_held k (b.view s).held) Kept Lost) × (t ≡ s)
 
 -- so it is of every key of so many words
 abbrev pub TurnsAway : (b : Behaviour) → b.State → ℕ → Type 0

@@ -1,6 +1,6 @@
 -- The shelf: keys one after the other in borrowed words, each behind a header word.
 use Rattle.std.specs.Prelude.{◌≡◌, ℕ, zero, suc, ◌+◌, ◌-◌, ◌*◌, ◌/◌, ◌%◌, ◌^◌, ◌<◌, min, cond, nat_eq, List, [], ◌∷◌, ◌++◌, length, take, drop, reverse, slice_index}
-use Rattle.stores.specs.Stores.{View, member, fits_space}
+use Rattle.stores.specs.Stores.{View, is_held, fits_space}
 use Rattle.stores.specs.declared.store.Stored.{Stored}
 use Rattle.stores.specs.declared.store.Stored.TheVariants.{Kept, Lost}
 
@@ -88,11 +88,11 @@ shelf_emptied s = record { held = []; room = s.room }
 
 -- what Keep answers and leaves: a held key moves nothing, one that fits goes behind the others, a lost one alters nothing
 abbrev pub shelf_answer : ShelfState → List ℕ → Stored
-shelf_answer s k = cond (member k s.held) Kept (cond (fits_space (length k) (shelf_view s).space) Kept Lost)
+shelf_answer s k = cond (is_held k s.held) Kept (cond (fits_space (length k) (shelf_view s).space) Kept Lost)
 
 abbrev pub shelf_after : ShelfState → List ℕ → ShelfState
-shelf_after s k = cond (member k s.held) s (cond (fits_space (length k) (shelf_view s).space) (record { held = s.held ++ (k ∷ []); room = s.room }) s)
+shelf_after s k = cond (is_held k s.held) s (cond (fits_space (length k) (shelf_view s).space) (record { held = s.held ++ (k ∷ []); room = s.room }) s)
 
 -- and the words that are used then
 abbrev pub used_after : List ℕ → ℕ → List ℕ → List ℕ
-used_after used room k = cond (member k (shelved_keys used)) used (cond (fits_space (length k) (room - length used - 1)) (used ++ shelf_entry (recent_keys used) k) used)
+used_after used room k = cond (is_held k (shelved_keys used)) used (cond (fits_space (length k) (room - length used - 1)) (used ++ shelf_entry (recent_keys used) k) used)

@@ -1,6 +1,6 @@
 // The store that keeps keys in borrowed memory.
 ghost use Rattle.std.specs.Prelude.{◌≡◌, ℕ, ◌+◌, ◌<◌, ◌≤◌, ◌==◌, slice_index, [], ◌∷◌, ◌++◌, length, take, drop, IsTrue, true, not};
-ghost use Rattle.stores.specs.Stores.{member, fits_space};
+ghost use Rattle.stores.specs.Stores.{is_held, fits_space};
 ghost use Rattle.stores.specs.Behaviours.{TurnsAway};
 ghost use Rattle.stores.specs.Shelves.{room_of, Whole, Indexed, hash_of, shelved_keys, recent_keys, shelf_entry, used_after};
 ghost use Rattle.stores.specs.ShelfLaws.{shelf};
@@ -73,7 +73,7 @@ impl<'a> Shelf<'a> {
     // length and the same high part of the hash.
     fn holds(&self, hash: u64, key: &[u64]) -> bool
         requires { hash ≡ hash_of key.now }
-        ensures { result ≡ member key.now (shelved_keys (used_words self.now)) }
+        ensures { result ≡ is_held key.now (shelved_keys (used_words self.now)) }
     {
         let mut at = self.heads[(hash / HASHES) as usize] as usize;
         while at > 0 {

@@ -1,6 +1,6 @@
 // What a store of failed nodes' keys does.
 ghost use Rattle.std.specs.Prelude.{◌≡◌, IsTrue, []};
-ghost use Rattle.stores.specs.Stores.{member};
+ghost use Rattle.stores.specs.Stores.{is_held};
 ghost use Rattle.stores.specs.Behaviours.{Behaviour, TurnsAway};
 
 /// What became of a key that a store was asked to keep.
@@ -27,7 +27,7 @@ pub trait Store {
 
     /// Whether the key is held.
     fn find(&self, key: &[u64]) -> bool
-        ensures { result ≡ member key.now (behaviour.view (state self.now)).held };
+        ensures { result ≡ is_held key.now (behaviour.view (state self.now)).held };
 
     /// Whether no key is held, so that no key need be written to be looked up. A store may return false though it
     /// holds none.

@@ -10,7 +10,7 @@ use Rattle.stores.specs.Behaviours.{Behaviour}
 use Rattle.search.specs.Search.{Level, Place}
 use Rattle.search.specs.Search.Place.{fresh, going, found, none}
 use Rattle.rows.specs.Reasons.{Judgement}
-use Rattle.search.specs.Calls.{Table, begun, Call, Answer, Formed, judged, is_found, result, place_answer, Does}
+use Rattle.search.specs.Calls.{TableData, begun, Call, Answer, Formed, judged, is_found, result, place_answer, Does}
 use Rattle.search.specs.Calls.Call.{declare, post, solve, read, wipe}
 use Rattle.search.specs.Histories.{History}
 use Rattle.search.proofs.AnyStore.{goes_any}
@@ -22,7 +22,7 @@ use Rattle.table.specs.declared.outcome.Outcome.{Outcome}
 use Rattle.table.specs.declared.outcome.Outcome.TheVariants as out
 use Rattle.table.specs.declared.engine.state.Search.{Search}
 use Rattle.table.specs.Places.{place_of}
-use Rattle.table.specs.Searches.{place, table_of, Begun, outcome_of, Runs}
+use Rattle.table.specs.Searches.{place_in, table_of, Begun, outcome_of, Runs}
 use Rattle.table.specs.declared.refusal.Refusal.{Refusal}
 use Rattle.table.specs.Shown.{outcome_answer}
 use Rattle.table.specs.CallLaws.{AnswerMeans, ReadMeans, ExtendsHistories}
@@ -30,7 +30,7 @@ use Rattle.table.specs.CallLaws.{AnswerMeans, ReadMeans, ExtendsHistories}
 -- ---- what lasts
 
 module _ (st : Behaviour) (m : Meaning) (L : Laws m) where
-  read_means : (g : st.State) (h : List (Call × Answer)) (buffer : List ℕ) (a : Answer) (t : Table) (v : st.State) → History st m g ((read buffer, a) ∷ h) t v → ReadMeans m h buffer a
+  read_means : (g : st.State) (h : List (Call × Answer)) (buffer : List ℕ) (a : Answer) (t : TableData) (v : st.State) → History st m g ((read buffer, a) ∷ h) t v → ReadMeans m h buffer a
   read_means g h buffer Answer.done t v H = tt
   read_means g h buffer (Answer.refused n) t v H = tt
   read_means g h buffer (Answer.found p) t v H = tt
@@ -38,14 +38,14 @@ module _ (st : Behaviour) (m : Meaning) (L : Laws m) where
   read_means g h buffer Answer.stopped t v H = tt
   read_means g h buffer (Answer.wrote n b) t v H = reads_hold st m L g [] h buffer n b t v H
 
-  means : (g : st.State) (h : List (Call × Answer)) (c : Call) (a : Answer) (t : Table) (v : st.State) → History st m g ((c, a) ∷ h) t v → AnswerMeans m h c a
+  means : (g : st.State) (h : List (Call × Answer)) (c : Call) (a : Answer) (t : TableData) (v : st.State) → History st m g ((c, a) ∷ h) t v → AnswerMeans m h c a
   means g h (declare s) a t v H = tt
   means g h (post bs) a t v H = tt
   means g h (solve b) a t v H = answers_hold st m L g [] h b a t v H
   means g h (read buffer) a t v H = read_means g h buffer a t v H
   means g h wipe a t v H = tt
 
-  pub extends_by : (t : Table) (v : st.State) (c : Call) (a : Answer) (u : Table) (w : st.State) → Formed c → Does st m t v c a u w → ExtendsHistories st m t v c a u w
+  pub extends_by : (t : TableData) (v : st.State) (c : Call) (a : Answer) (u : TableData) (w : st.State) → Formed c → Does st m t v c a u w → ExtendsHistories st m t v c a u w
   extends_by t v c a u w f d = record {
     history = λ g h H. History.then h t u v w c a H f d;
     invariant = λ g h H. invariant_holds st m L g ((c, a) ∷ h) u w (History.then h t u v w c a H f d);
@@ -56,7 +56,7 @@ module _ (st : Behaviour) (m : Meaning) (L : Laws m) where
 
 pub begun_table : (voices : List ℕ) (rows : List RowData) (n : ℕ) (s : Search) → Begun n s → table_of voices rows s ≡ begun voices rows
 begun_table voices rows n s b =
-    let at : List Level → End → ℕ → ℕ → Table = λ ls e o x. record { voices = voices; rows = rows; place = place_of e (vec_items s.sets) ls; opened = o; exhausted = x } in
+    let at : List Level → End → ℕ → ℕ → TableData = λ ls e o x. record { voices = voices; rows = rows; place = place_of e (vec_items s.sets) ls; opened = o; exhausted = x } in
     ap (λ (ls : List Level). at ls s.end s.opened s.exhausted) b.level_none
     ∙ ap (λ (e : End). at [] e s.opened s.exhausted) b.fresh_end
     ∙ ap (λ (o : ℕ). at [] Fresh o s.exhausted) b.none_opened
@@ -64,7 +64,7 @@ begun_table voices rows n s b =
 
 -- ---- what the calls do
 
-pub declines_by : (st : Behaviour) (m : Meaning) (t : Table) (v : st.State) (c : Call) (n : ℕ) → judged m t c ≡ Judgement.declined n → Does st m t v c (Answer.refused n) t v
+pub declines_by : (st : Behaviour) (m : Meaning) (t : TableData) (v : st.State) (c : Call) (n : ℕ) → judged m t c ≡ Judgement.declined n → Does st m t v c (Answer.refused n) t v
 declines_by st m t v c n e = Does.declines c n e
 
 -- what holds anyway holds where a call is declined
@@ -84,26 +84,26 @@ pub declares_by : (st : Behaviour) (m : Meaning) (voices voices' : List ℕ) (ro
     → Does st m (table_of voices rows s) v (declare x) Answer.done (table_of voices' rows s') w
 declares_by st m voices voices' rows s s' v w x n e b f h =
     let to : table_of voices' rows s' ≡ begun (voices ++ (x ∷ [])) rows = begun_table voices' rows n s' b ∙ ap (λ (y : List ℕ). begun y rows) e in
-    subst (λ (y : Table). Does st m (table_of voices rows s) v (declare x) Answer.done y w) (sym to) (Does.declares x w f h)
+    subst (λ (y : TableData). Does st m (table_of voices rows s) v (declare x) Answer.done y w) (sym to) (Does.declares x w f h)
 
 pub posts_by : (st : Behaviour) (m : Meaning) (voices : List ℕ) (rows rows' : List RowData) (s s' : Search) (v w : st.State) (bs : List ℕ) (n : ℕ) → rows' ≡ rows ++ (decode m bs ∷ []) → Begun n s'
     → judged m (table_of voices rows s) (post bs) ≡ Judgement.passes → st.empties v w
     → Does st m (table_of voices rows s) v (post bs) Answer.done (table_of voices rows' s') w
 posts_by st m voices rows rows' s s' v w bs n e b f h =
     let to : table_of voices rows' s' ≡ begun voices (rows ++ (decode m bs ∷ [])) = begun_table voices rows' n s' b ∙ ap (λ (y : List RowData). begun voices y) e in
-    subst (λ (y : Table). Does st m (table_of voices rows s) v (post bs) Answer.done y w) (sym to) (Does.posts bs w f h)
+    subst (λ (y : TableData). Does st m (table_of voices rows s) v (post bs) Answer.done y w) (sym to) (Does.posts bs w f h)
 
-pub wipes_by : (st : Behaviour) (m : Meaning) (t : Table) (voices : List ℕ) (s : Search) (v w : st.State) (n : ℕ) → voices ≡ [] → Begun n s → st.empties v w
+pub wipes_by : (st : Behaviour) (m : Meaning) (t : TableData) (voices : List ℕ) (s : Search) (v w : st.State) (n : ℕ) → voices ≡ [] → Begun n s → st.empties v w
     → Does st m t v wipe Answer.done (table_of voices [] s) w
 wipes_by st m t voices s v w n e b h =
     let to : table_of voices [] s ≡ begun [] [] = begun_table voices [] n s b ∙ ap (λ (y : List ℕ). begun y []) e in
-    subst (λ (y : Table). Does st m t v wipe Answer.done y w) (sym to) (Does.wipes w h)
+    subst (λ (y : TableData). Does st m t v wipe Answer.done y w) (sym to) (Does.wipes w h)
 
 pub made_by : (st : Behaviour) (m : Meaning) (voices : List ℕ) (s : Search) (g w : st.State) (n : ℕ) → voices ≡ [] → Begun n s → st.empties g w
     → History st m g [] (table_of voices [] s) w
 made_by st m voices s g w n e b h =
     let to : table_of voices [] s ≡ begun [] [] = begun_table voices [] n s b ∙ ap (λ (y : List ℕ). begun y []) e in
-    subst (λ (y : Table). History st m g [] y w) (sym to) (History.made w h)
+    subst (λ (y : TableData). History st m g [] y w) (sym to) (History.made w h)
 
 outcome_says : (p : Place) → outcome_answer (outcome_of p) (result p) ≡ place_answer p
 outcome_says fresh = refl
@@ -111,16 +111,16 @@ outcome_says (going l ls) = refl
 outcome_says (found p) = refl
 outcome_says none = refl
 
-pub solves_by : (st : Behaviour) (m : Meaning) (voices : List ℕ) (rows : List RowData) (s s' : Search) (v w : st.State) (b : ℕ) (o : Outcome) → o ≡ outcome_of (place s')
+pub solves_by : (st : Behaviour) (m : Meaning) (voices : List ℕ) (rows : List RowData) (s s' : Search) (v w : st.State) (b : ℕ) (o : Outcome) → o ≡ outcome_of (place_in s')
     → judged m (table_of voices rows s) (solve b) ≡ Judgement.passes → Runs st m b (table_of voices rows s) v (table_of voices rows s') w
-    → Does st m (table_of voices rows s) v (solve b) (outcome_answer o (result (place s'))) (table_of voices rows s') w
+    → Does st m (table_of voices rows s) v (solve b) (outcome_answer o (result (place_in s'))) (table_of voices rows s') w
 solves_by st m voices rows s s' v w b o e f r =
-    let a : outcome_answer o (result (place s')) ≡ place_answer (place s') = ap (λ (x : Outcome). outcome_answer x (result (place s'))) e ∙ outcome_says (place s') in
+    let a : outcome_answer o (result (place_in s')) ≡ place_answer (place_in s') = ap (λ (x : Outcome). outcome_answer x (result (place_in s'))) e ∙ outcome_says (place_in s') in
     subst (λ (x : Answer). Does st m (table_of voices rows s) v (solve b) x (table_of voices rows s') w) (sym a)
     (Does.solves b (table_of voices rows s') w r.lost f r.solved)
 
 -- no fewer nodes are opened than before, and at most as many more as the budget says
-pub opens_within : (st : Behaviour) {m : Meaning} {b : ℕ} {t : Table} {v : st.State} {u : Table} {w : st.State} → Runs st m b t v u w
+pub opens_within : (st : Behaviour) {m : Meaning} {b : ℕ} {t : TableData} {v : st.State} {u : TableData} {w : st.State} → Runs st m b t v u w
     → (t.opened ≤ u.opened) × (u.opened ≤ t.opened + b)
 opens_within st {m} r =
     let k = goes_kept (goes_any st m r.solved.goes) in
@@ -152,7 +152,7 @@ found_place Fresh w (l ∷ ls) h = cc
 found_place Found w (l ∷ ls) h = cc
 found_place Exhausted w (l ∷ ls) h = cc
 
-pub reads_by : (st : Behaviour) (m : Meaning) (voices : List ℕ) (rows : List RowData) (s : Search) (v : st.State) (sets buffer after : List ℕ) → place s ≡ found (values sets)
+pub reads_by : (st : Behaviour) (m : Meaning) (voices : List ℕ) (rows : List RowData) (s : Search) (v : st.State) (sets buffer after : List ℕ) → place_in s ≡ found (values sets)
     → after ≡ values sets ++ drop (length sets) buffer → judged m (table_of voices rows s) (read buffer) ≡ Judgement.passes
     → Does st m (table_of voices rows s) v (read buffer) (Answer.wrote (length sets) after) (table_of voices rows s) v
 reads_by st m voices rows s v sets buffer after e f g =

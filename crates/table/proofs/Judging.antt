@@ -8,7 +8,7 @@ use Rattle.rows.specs.Rows.{Meaning}
 use Rattle.rows.specs.declared.limits.TheConstants.{MOST_VOICES, MOST_BUDGET, MOST_OPENED}
 use Rattle.search.specs.Search.{Place}
 use Rattle.rows.specs.Reasons.{judge}
-use Rattle.search.specs.Calls.{Table, judged, over, is_found, result}
+use Rattle.search.specs.Calls.{TableData, judged, over, is_found, result}
 use Rattle.search.specs.Calls.Call.{declare, solve, read}
 use Rattle.rows.specs.Reasons.Judgement.{passes, declined}
 
@@ -20,61 +20,61 @@ judge_next n f rs e = ap (λ (b : Bool). judge ((n, b) ∷ rs)) e
 
 -- ---- Declare
 
-pub empty_set : (m : Meaning) (t : Table) (s : ℕ) → s ≡ 0 → judged m t (declare s) ≡ declined 10
+pub empty_set : (m : Meaning) (t : TableData) (s : ℕ) → s ≡ 0 → judged m t (declare s) ≡ declined 10
 empty_set m t s e = judge_here 10 (eqb s 0) ((11, leb MOST_VOICES (length t.voices)) ∷ []) (eq-eqb s 0 e)
 
-pub voices_full : (m : Meaning) (t : Table) (s : ℕ) → (s ≡ 0 → ⊥) → MOST_VOICES ≤ length t.voices → judged m t (declare s) ≡ declined 11
+pub voices_full : (m : Meaning) (t : TableData) (s : ℕ) → (s ≡ 0 → ⊥) → MOST_VOICES ≤ length t.voices → judged m t (declare s) ≡ declined 11
 voices_full m t s e h =
     judge_next 10 (eqb s 0) ((11, leb MOST_VOICES (length t.voices)) ∷ []) (ne_eqb s 0 e)
     ∙ judge_here 11 (leb MOST_VOICES (length t.voices)) [] (le-leb MOST_VOICES (length t.voices) h)
 
-pub voice_fits : (m : Meaning) (t : Table) (s : ℕ) → (s ≡ 0 → ⊥) → length t.voices < MOST_VOICES → judged m t (declare s) ≡ passes
+pub voice_fits : (m : Meaning) (t : TableData) (s : ℕ) → (s ≡ 0 → ⊥) → length t.voices < MOST_VOICES → judged m t (declare s) ≡ passes
 voice_fits m t s e h =
     judge_next 10 (eqb s 0) ((11, leb MOST_VOICES (length t.voices)) ∷ []) (ne_eqb s 0 e)
     ∙ judge_next 11 (leb MOST_VOICES (length t.voices)) [] (lt-leb MOST_VOICES (length t.voices) h)
 
 -- ---- Solve
 
-spent : Table → ℕ → Bool
+spent : TableData → ℕ → Bool
 spent t b = not (over t.place) && ltb MOST_OPENED (t.opened + b)
 
-pub budget_range : (m : Meaning) (t : Table) (b : ℕ) → (b ≡ 0) ⊎ ((b ≡ 0 → ⊥) × (MOST_BUDGET < b)) → judged m t (solve b) ≡ declined 13
+pub budget_range : (m : Meaning) (t : TableData) (b : ℕ) → (b ≡ 0) ⊎ ((b ≡ 0 → ⊥) × (MOST_BUDGET < b)) → judged m t (solve b) ≡ declined 13
 unfolding spent
 budget_range m t b (inl e) = judge_here 13 (eqb b 0 || ltb MOST_BUDGET b) ((14, spent t b) ∷ []) (or_left (eqb b 0) (ltb MOST_BUDGET b) (eq-eqb b 0 e))
 budget_range m t b (inr h) = judge_here 13 (eqb b 0 || ltb MOST_BUDGET b) ((14, spent t b) ∷ []) (or_right (eqb b 0) (ltb MOST_BUDGET b) (lt-ltb MOST_BUDGET b h.1))
 
-in_range : (m : Meaning) (t : Table) (b : ℕ) → (b ≡ 0 → ⊥) → b ≤ MOST_BUDGET → judged m t (solve b) ≡ judge ((14, spent t b) ∷ [])
+in_range : (m : Meaning) (t : TableData) (b : ℕ) → (b ≡ 0 → ⊥) → b ≤ MOST_BUDGET → judged m t (solve b) ≡ judge ((14, spent t b) ∷ [])
 unfolding spent
 in_range m t b n h = judge_next 13 (eqb b 0 || ltb MOST_BUDGET b) ((14, spent t b) ∷ []) (or_from (eqb b 0) (ltb MOST_BUDGET b) (ne_eqb b 0 n) (le-ltb MOST_BUDGET b h))
 
-pub over_passes : (m : Meaning) (t : Table) (b : ℕ) → (b ≡ 0 → ⊥) → b ≤ MOST_BUDGET → over t.place ≡ true → judged m t (solve b) ≡ passes
+pub over_passes : (m : Meaning) (t : TableData) (b : ℕ) → (b ≡ 0 → ⊥) → b ≤ MOST_BUDGET → over t.place ≡ true → judged m t (solve b) ≡ passes
 unfolding spent
 over_passes m t b n h e = in_range m t b n h ∙ judge_next 14 (spent t b) [] (and_left (not (over t.place)) (ltb MOST_OPENED (t.opened + b)) (not_from_true (over t.place) e))
 
-pub nodes_spent : (m : Meaning) (t : Table) (b : ℕ) → (b ≡ 0 → ⊥) → b ≤ MOST_BUDGET → over t.place ≡ false → MOST_OPENED < t.opened + b → judged m t (solve b) ≡ declined 14
+pub nodes_spent : (m : Meaning) (t : TableData) (b : ℕ) → (b ≡ 0 → ⊥) → b ≤ MOST_BUDGET → over t.place ≡ false → MOST_OPENED < t.opened + b → judged m t (solve b) ≡ declined 14
 unfolding spent
 nodes_spent m t b n h e k =
     in_range m t b n h
     ∙ judge_here 14 (spent t b) [] (and_from (not (over t.place)) (ltb MOST_OPENED (t.opened + b)) (not_from_false (over t.place) e) (lt-ltb MOST_OPENED (t.opened + b) k))
 
-pub budget_fits : (m : Meaning) (t : Table) (b : ℕ) → (b ≡ 0 → ⊥) → b ≤ MOST_BUDGET → t.opened + b ≤ MOST_OPENED → judged m t (solve b) ≡ passes
+pub budget_fits : (m : Meaning) (t : TableData) (b : ℕ) → (b ≡ 0 → ⊥) → b ≤ MOST_BUDGET → t.opened + b ≤ MOST_OPENED → judged m t (solve b) ≡ passes
 unfolding spent
 budget_fits m t b n h k = in_range m t b n h ∙ judge_next 14 (spent t b) [] (and_right (not (over t.place)) (ltb MOST_OPENED (t.opened + b)) (le-ltb MOST_OPENED (t.opened + b) k))
 
 -- ---- Read
 
-pub nothing_found : (m : Meaning) (t : Table) (buffer : List ℕ) → is_found t.place ≡ false → judged m t (read buffer) ≡ declined 15
+pub nothing_found : (m : Meaning) (t : TableData) (buffer : List ℕ) → is_found t.place ≡ false → judged m t (read buffer) ≡ declined 15
 nothing_found m t buffer e =
     judge_here 15 (not (is_found t.place)) ((16, ltb (length buffer) (length (result t.place))) ∷ []) (not_from_false (is_found t.place) e)
 
-when_found : (m : Meaning) (t : Table) (sets buffer : List ℕ) (b : Bool) → t.place ≡ Place.found (values sets) → ltb (length buffer) (length sets) ≡ b → judged m t (read buffer) ≡ judge ((16, b) ∷ [])
+when_found : (m : Meaning) (t : TableData) (sets buffer : List ℕ) (b : Bool) → t.place ≡ Place.found (values sets) → ltb (length buffer) (length sets) ≡ b → judged m t (read buffer) ≡ judge ((16, b) ∷ [])
 when_found m t sets buffer b e f =
     ap (λ (p : Place). judge ((15, not (is_found p)) ∷ ((16, ltb (length buffer) (length (result p))) ∷ []))) e
     ∙ ap (λ (n : ℕ). judge ((16, ltb (length buffer) n) ∷ [])) (length-map sets least)
     ∙ ap (λ (x : Bool). judge ((16, x) ∷ [])) f
 
-pub short_buffer : (m : Meaning) (t : Table) (sets buffer : List ℕ) → t.place ≡ Place.found (values sets) → length buffer < length sets → judged m t (read buffer) ≡ declined 16
+pub short_buffer : (m : Meaning) (t : TableData) (sets buffer : List ℕ) → t.place ≡ Place.found (values sets) → length buffer < length sets → judged m t (read buffer) ≡ declined 16
 short_buffer m t sets buffer e h = when_found m t sets buffer true e (lt-ltb (length buffer) (length sets) h)
 
-pub buffer_fits : (m : Meaning) (t : Table) (sets buffer : List ℕ) → t.place ≡ Place.found (values sets) → length sets ≤ length buffer → judged m t (read buffer) ≡ passes
+pub buffer_fits : (m : Meaning) (t : TableData) (sets buffer : List ℕ) → t.place ≡ Place.found (values sets) → length sets ≤ length buffer → judged m t (read buffer) ≡ passes
 buffer_fits m t sets buffer e h = when_found m t sets buffer false e (le-ltb (length buffer) (length sets) h)

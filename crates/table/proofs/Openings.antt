@@ -6,7 +6,7 @@ use Rattle.sets.specs.Sets.{fixed}
 use Rattle.sets.specs.Placings.{some_empty, all_fixed, values}
 use Rattle.rows.specs.Rows.{RowData, Meaning}
 use Rattle.stores.specs.Keys.{key}
-use Rattle.stores.specs.Stores.{View, member}
+use Rattle.stores.specs.Stores.{View, is_held}
 use Rattle.stores.specs.Behaviours.{Behaviour}
 use Rattle.search.specs.Propagation.{propagated}
 use Rattle.search.specs.Search.{Level, Node, Place, BacksUp, Opens, node, below, first_open, level_of}
@@ -16,8 +16,8 @@ use Rattle.table.specs.declared.engine.level.End.TheVariants.{Found, Exhausted}
 use Rattle.table.specs.Levels.{next_levels, place_backed_up, Backed}
 use Rattle.table.specs.Places.{place_of}
 use Rattle.table.specs.Nodes.{node_of}
-use Rattle.table.specs.declared.engine.node.Node as code
-use Rattle.table.specs.declared.engine.node.Node.TheVariants.{Dead, Hit}
+use Rattle.table.specs.declared.engine.node.NodeClass as code
+use Rattle.table.specs.declared.engine.node.NodeClass.TheVariants.{Dead, Hit}
 
 -- the place of the first set that is not fixed, and whether there is one
 record FoundOpen (k : ℕ) (xs : List ℕ) (v : ℕ) (a : Bool) : Type 0 where
@@ -84,19 +84,19 @@ pick k s a f h =
     elim a [ true ↦ dead | false ↦ elim f [ true ↦ solution (values s) | false ↦ elim h [ true ↦ hit | false ↦ branch (level_of k s) ] ] ]
 
 module _ (m : Meaning) (rows : List RowData) (v : View) (k : ℕ) (s : List ℕ) where
-  by_tests : (a f h : Bool) → some_empty s ≡ a → all_fixed (drop k s) ≡ f → member (key m rows s) v.held ≡ h → node m rows v k s ≡ pick k s a f h
+  by_tests : (a f h : Bool) → some_empty s ≡ a → all_fixed (drop k s) ≡ f → is_held (key m rows s) v.held ≡ h → node m rows v k s ≡ pick k s a f h
   by_tests a f h p q r =
-      ap (λ x. pick k s x (all_fixed (drop k s)) (member (key m rows s) v.held)) p
-      ∙ ap (λ x. pick k s a x (member (key m rows s) v.held)) q
+      ap (λ x. pick k s x (all_fixed (drop k s)) (is_held (key m rows s) v.held)) p
+      ∙ ap (λ x. pick k s a x (is_held (key m rows s) v.held)) q
       ∙ ap (λ x. pick k s a f x) r
 
   pub node_solution : some_empty s ≡ false → all_fixed (drop k s) ≡ true → node m rows v k s ≡ solution (values s)
-  node_solution e f = by_tests false true (member (key m rows s) v.held) e f refl
+  node_solution e f = by_tests false true (is_held (key m rows s) v.held) e f refl
 
-  pub node_hit : some_empty s ≡ false → all_fixed (drop k s) ≡ false → member (key m rows s) v.held ≡ true → node m rows v k s ≡ hit
+  pub node_hit : some_empty s ≡ false → all_fixed (drop k s) ≡ false → is_held (key m rows s) v.held ≡ true → node m rows v k s ≡ hit
   node_hit e f h = by_tests false false true e f h
 
-  pub node_branch : (j : ℕ) → j ≡ first_open k (drop k s) → some_empty s ≡ false → all_fixed (drop k s) ≡ false → member (key m rows s) v.held ≡ false
+  pub node_branch : (j : ℕ) → j ≡ first_open k (drop k s) → some_empty s ≡ false → all_fixed (drop k s) ≡ false → is_held (key m rows s) v.held ≡ false
       → node m rows v k s ≡ branch (record { sets = s; voice = j; left = get_or s j 0 })
   node_branch j c e f h = by_tests false false false e f h ∙ ap (λ (x : ℕ). branch (record { sets = s; voice = x; left = get_or s x 0 })) (sym c)
 
@@ -118,9 +118,9 @@ Fails (solution p) = ⊥
 Fails hit = Unit {0}
 Fails (branch l) = ⊥
 
-pub failed : (r : code.Node) (t : List ℕ) → (r ≡ Dead) ⊎ (r ≡ Hit) → Fails (node_of r t)
-failed r t (inl e) = subst (λ (x : code.Node). Fails (node_of x t)) (sym e) tt
-failed r t (inr e) = subst (λ (x : code.Node). Fails (node_of x t)) (sym e) tt
+pub failed : (r : code.NodeClass) (t : List ℕ) → (r ≡ Dead) ⊎ (r ≡ Hit) → Fails (node_of r t)
+failed r t (inl e) = subst (λ (x : code.NodeClass). Fails (node_of x t)) (sym e) tt
+failed r t (inr e) = subst (λ (x : code.NodeClass). Fails (node_of x t)) (sym e) tt
 
 -- The node with the sets s, which are propagated to t; the voices below k are fixed.
 module _ (st : Behaviour) (m : Meaning) (rows : List RowData) (s t : List ℕ) (ls : List Level) (v : st.State) (k : ℕ) where

@@ -15,7 +15,7 @@ use Rattle.rows.proofs.Layouts.{bytes_both_ways}
 use Rattle.rows.proofs.Readings.{layout_right}
 use Rattle.rows.specs.declared.limits.TheConstants.{MOST_ROWS, MOST_BYTES}
 use Rattle.rows.specs.Reasons.{judge, declined_under}
-use Rattle.search.specs.Calls.{Table, judged}
+use Rattle.search.specs.Calls.{TableData, judged}
 use Rattle.search.specs.Calls.Call.{post}
 use Rattle.rows.specs.Reasons.Judgement.{passes, declined}
 
@@ -77,7 +77,7 @@ all_yes true true true true (Err f) y e = never (ByKind f) y (sym e)
 abbrev pub full_for : List RowData → ℕ → Bool
 full_for rows bytes = leb MOST_ROWS (length rows) || ltb MOST_BYTES (total_bytes rows + bytes)
 
-module _ (m : Meaning) (t : Table) (bs : List ℕ) where
+module _ (m : Meaning) (t : TableData) (bs : List ℕ) where
   pub bytes_decline : (f : RowRefusal) → fault f ≡ row_verdict m bs (length t.voices) → judged m t (post bs) ≡ declined (row_number f)
   bytes_decline f e =
       faulty (lettered m bs) (counted bs) (right_length m bs) (marked (drop (head_length m bs) bs)) (m.accepts (decode m bs) (length t.voices)) (full_for t.rows (length bs)) f e

@@ -3,7 +3,7 @@ use Rattle.std.proofs.Common.{◌≡◌, ℕ, ◌+◌, ◌≤◌, true, false, �
 use Rattle.rows.specs.Rows.{RowData, Meaning}
 use Rattle.stores.specs.Behaviours.{Behaviour}
 use Rattle.search.specs.Search.{Level, Place, Opens, Steps, taken}
-use Rattle.search.specs.Calls.{Table, over, OpensNodes}
+use Rattle.search.specs.Calls.{TableData, over, OpensNodes}
 use Rattle.table.specs.declared.engine.level.End.{End}
 use Rattle.table.specs.declared.engine.level.End.TheVariants.{Fresh, Found, Exhausted}
 use Rattle.table.specs.Levels.{next_sets, next_levels}
@@ -30,7 +30,7 @@ module _ (st : Behaviour) where
 
   -- ---- runs
 
-  abbrev pub table : List ℕ → List RowData → Place → ℕ → ℕ → Table
+  abbrev pub table : List ℕ → List RowData → Place → ℕ → ℕ → TableData
   table voices rows p o e = record { voices = voices; rows = rows; place = p; opened = o; exhausted = e }
 
   pub ran_one : (m : Meaning) (voices : List ℕ) (rows : List RowData) (p q : Place) (o e o' e' : ℕ) (v w : st.State) (n : ℕ) → o' ≡ o + 1 → e' ≡ e + n → Advanced st m voices rows p v q w n
@@ -44,23 +44,23 @@ module _ (st : Behaviour) where
             (OpensNodes.stay (table voices rows q (o + 1) (e + n)) w);
       }))
 
-  recount : {m : Meaning} {b c : ℕ} {t : Table} {v : st.State} {u : Table} {w : st.State} {i j : ℕ} → b ≡ c → i ≡ j → OpensNodes st m b t v u w i
+  recount : {m : Meaning} {b c : ℕ} {t : TableData} {v : st.State} {u : TableData} {w : st.State} {i j : ℕ} → b ≡ c → i ≡ j → OpensNodes st m b t v u w i
       → OpensNodes st m c t v u w j
   recount {m} {b} {c} {t} {v} {u} {w} {i} {j} e f g = subst (λ (k : ℕ). OpensNodes st m c t v u w k) f (subst (λ (n : ℕ). OpensNodes st m n t v u w i) e g)
 
-  goes_then : {m : Meaning} {b c : ℕ} {t : Table} {v : st.State} {u : Table} {w : st.State} {x : Table} {y : st.State} {i j : ℕ} → OpensNodes st m b t v u w i
+  goes_then : {m : Meaning} {b c : ℕ} {t : TableData} {v : st.State} {u : TableData} {w : st.State} {x : TableData} {y : st.State} {i j : ℕ} → OpensNodes st m b t v u w i
       → OpensNodes st m c u w x y j → OpensNodes st m (b + c) t v x y (i + j)
   goes_then (OpensNodes.stay t v) h = recount (omega arith) (omega arith) h
   goes_then {c = c} {x = x} {y = y} {j = j} (OpensNodes.more b t u v w z p n k i S G) h =
       recount (omega arith) (omega arith) (OpensNodes.more (b + c) t x v w y p n k (i + j) S (goes_then G h))
 
-  pub ran_none : (m : Meaning) (t : Table) (v : st.State) (n : ℕ) → n ≡ 0 → Ran st m n t v t v
+  pub ran_none : (m : Meaning) (t : TableData) (v : st.State) (n : ℕ) → n ≡ 0 → Ran st m n t v t v
   ran_none m t v n e = record { lost = 0; goes = recount (sym e) refl (OpensNodes.stay t v) }
 
-  pub ran_then : (m : Meaning) (b c d : ℕ) (t : Table) (v : st.State) (u : Table) (w : st.State) (x : Table) (y : st.State) → d ≡ b + c
+  pub ran_then : (m : Meaning) (b c d : ℕ) (t : TableData) (v : st.State) (u : TableData) (w : st.State) (x : TableData) (y : st.State) → d ≡ b + c
       → Ran st m b t v u w → Ran st m c u w x y → Ran st m d t v x y
   ran_then m b c d t v u w x y e r q = record { lost = r.lost + q.lost; goes = recount (sym e) refl (goes_then r.goes q.goes) }
 
-  pub runs_by : (m : Meaning) (budget count : ℕ) (t : Table) (v : st.State) (u : Table) (w : st.State) → count ≤ budget → Ran st m count t v u w
+  pub runs_by : (m : Meaning) (budget count : ℕ) (t : TableData) (v : st.State) (u : TableData) (w : st.State) → count ≤ budget → Ran st m count t v u w
       → (over u.place ≡ true) ⊎ (count ≡ budget) → Runs st m budget t v u w
   runs_by m budget count t v u w h r e = record { lost = r.lost; solved = record { count = count; inside = h; goes = r.goes; ends = e } }

@@ -2,7 +2,7 @@
 use Rattle.std.specs.Prelude.{ℕ, List, ◌∷◌}
 use Rattle.rows.specs.Rows.{Meaning}
 use Rattle.stores.specs.Behaviours.{Behaviour}
-use Rattle.search.specs.Calls.{Table, Call, Answer}
+use Rattle.search.specs.Calls.{TableData, Call, Answer}
 use Rattle.search.specs.Calls.Call.{declare, post, solve, read, wipe}
 use Rattle.search.specs.Histories.{History, keys_lost, declared_voices, posted_rows}
 use Rattle.search.specs.Results.{Invariant, SolveMeans, Reads}
@@ -28,8 +28,8 @@ AnswerMeans m h wipe a = Unit {0}
 -- Whatever the calls were that led to the table t and the state s, from a store in whatever state
 -- g: with this call they lead to the table u and the state r; what holds after every history holds
 -- then, and the answer is right.
-pub record ExtendsHistories (b : Behaviour) (m : Meaning) (t : Table) (s : b.State) (c : Call)
-    (a : Answer) (u : Table) (r : b.State) : Type 0 where
+pub record ExtendsHistories (b : Behaviour) (m : Meaning) (t : TableData) (s : b.State) (c : Call)
+    (a : Answer) (u : TableData) (r : b.State) : Type 0 where
   pub history : (g : b.State) (h : List (Call × Answer)) → History b m g h t s
       → History b m g ((c, a) ∷ h) u r
   pub invariant : (g : b.State) (h : List (Call × Answer)) (H : History b m g h t s)

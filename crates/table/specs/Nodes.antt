@@ -3,18 +3,18 @@ use Rattle.std.specs.Prelude.{◌≡◌, ℕ, ◌<◌, ◌≤◌, true, List, le
 use Rattle.sets.specs.Placings.{values, all_fixed, Proper}
 use Rattle.search.specs.Search as search
 use Rattle.search.specs.Search.Node.{dead, solution, hit, branch}
-use Rattle.table.specs.declared.engine.node.Node.{Node}
-use Rattle.table.specs.declared.engine.node.Node.TheVariants.{Dead, Solution, Hit, Branch}
+use Rattle.table.specs.declared.engine.node.NodeClass.{NodeClass}
+use Rattle.table.specs.declared.engine.node.NodeClass.TheVariants.{Dead, Solution, Hit, Branch}
 
 -- a node with the propagated sets s
-abbrev pub node_of : Node → List ℕ → search.Node
+abbrev pub node_of : NodeClass → List ℕ → search.Node
 node_of Dead s = dead
 node_of Solution s = solution (values s)
 node_of Hit s = hit
 node_of (Branch v) s = branch (record { sets = s; voice = v; left = slice_index s v })
 
 -- the voice that a node branches on is one of its own, from k on, and has a value; and no set is empty
-abbrev pub Branches : Node → ℕ → List ℕ → Type 0
+abbrev pub Branches : NodeClass → ℕ → List ℕ → Type 0
 Branches Dead k s = Unit {0}
 Branches Solution k s = Unit {0}
 Branches Hit k s = Unit {0}

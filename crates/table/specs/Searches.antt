@@ -4,7 +4,7 @@ use Rattle.rows.specs.Rows.{RowData, Meaning}
 use Rattle.stores.specs.Behaviours.{Behaviour}
 use Rattle.search.specs.Search.{Level, Place}
 use Rattle.search.specs.Search.Place.{fresh, going, found, none}
-use Rattle.search.specs.Calls.{Table, OpensNodes, Solved}
+use Rattle.search.specs.Calls.{TableData, OpensNodes, Solved}
 use Rattle.table.specs.Places.{place_of}
 use Rattle.table.specs.Stacks.{levels_in}
 use Rattle.table.specs.declared.engine.state.Search.{Search}
@@ -23,15 +23,15 @@ node_sets s = vec_items s.sets
 abbrev pub levels_of : Search → List Level
 levels_of s = levels_in s.levels
 
-abbrev pub place : Search → Place
-place s = place_of s.end (vec_items s.sets) (levels_of s)
+abbrev pub place_in : Search → Place
+place_in s = place_of s.end (vec_items s.sets) (levels_of s)
 
 -- the table with these voices and rows that it searches
-abbrev pub table_of : List ℕ → List RowData → Search → Table
+abbrev pub table_of : List ℕ → List RowData → Search → TableData
 table_of voices rows s = record {
   voices = voices;
   rows = rows;
-  place = place s;
+  place = place_in s;
   opened = s.opened;
   exhausted = s.exhausted;
 }
@@ -52,13 +52,13 @@ outcome_of (found p) = Found
 outcome_of none = None
 
 -- n nodes are opened; the store loses some number of keys
-pub record Ran (b : Behaviour) (m : Meaning) (n : ℕ) (t : Table) (s : b.State) (u : Table)
+pub record Ran (b : Behaviour) (m : Meaning) (n : ℕ) (t : TableData) (s : b.State) (u : TableData)
     (r : b.State) : Type 0 where
   pub lost : ℕ
   pub goes : OpensNodes b m n t s u r lost
 
 -- nodes are opened with this budget; the store loses some number of keys
-pub record Runs (b : Behaviour) (m : Meaning) (budget : ℕ) (t : Table) (s : b.State) (u : Table)
+pub record Runs (b : Behaviour) (m : Meaning) (budget : ℕ) (t : TableData) (s : b.State) (u : TableData)
     (r : b.State) : Type 0 where
   pub lost : ℕ
   pub solved : Solved b m budget t s u r lost

@@ -21,7 +21,7 @@ use Rattle.tickets.specs.Building.{TicketVerdict, row_fits, row_length, next_pla
 use Rattle.tickets.specs.declared.ticket.CloseRefusal.{CloseRefusal}
 use Rattle.tickets.specs.declared.ticket.CloseRefusal.TheVariants.{StillOpen, Post}
 use Rattle.tickets.specs.Closing.{refusal_of, close_answer, handed_back, to_hand_back, row_in, Posts, PostExtends}
-use Rattle.tickets.specs.Whole.{missing_members, members_result, members_memory, row_bytes, count_verdict, and_verdict, build_verdict, build_memory, build_answer, own_verdict}
+use Rattle.tickets.specs.Whole.{missing_members, members_result, members_memory, built_bytes, count_verdict, and_verdict, build_verdict, build_memory, build_answer, own_verdict}
 use Rattle.tickets.proofs.Writings.{written_more, read_front}
 use Rattle.tickets.proofs.Verdicts.{checked_passed, ticket_passed, ticket_failed, begin_room, stays, posts_same, extends_same}
 
@@ -34,7 +34,7 @@ not_begun m letter body mem after members f e w =
     let v = ticket_failed (begin_verdict m letter body (length mem)) (new_ticket body) f e in (
       ap (λ (x : TicketVerdict). and_verdict x (count_verdict body members)) v,
       w ∙ ap (λ (x : TicketVerdict). cond (is_ok x) (written 0 (letter ∷ body) mem) mem) v
-          ∙ sym (ap (λ (x : TicketVerdict). cond (is_ok x) (written 0 (row_bytes letter body (take (get_or body 0 0) members)) mem) mem) v),
+          ∙ sym (ap (λ (x : TicketVerdict). cond (is_ok x) (written 0 (built_bytes letter body (take (get_or body 0 0) members)) mem) mem) v),
     )
 
 -- ---- Begin accepts
@@ -42,7 +42,7 @@ not_begun m letter body mem after members f e w =
 -- the memory after Begin, and after the members
 pub filled : (m : Meaning) (letter : ℕ) (body mem begun after : List ℕ) (members : List Member) (t : Ticket)
     → Ok t ≡ begin_result m letter body (length mem) → begun ≡ begin_memory m letter body mem → after ≡ members_memory t members begun
-    → (after ≡ build_memory m letter body members mem) × (after ≡ written 0 (row_bytes letter body (take (get_or body 0 0) members)) mem)
+    → (after ≡ build_memory m letter body members mem) × (after ≡ written 0 (built_bytes letter body (take (get_or body 0 0) members)) mem)
 filled m letter body mem begun after members t e b w =
     let n = get_or body 0 0 in
     let new = new_ticket body in
@@ -50,11 +50,11 @@ filled m letter body mem begun after members t e b w =
     let room = begin_room m letter body (length mem) p.0 in
     let front : begun ≡ written 0 (letter ∷ body) mem = b ∙ ap (λ (x : TicketVerdict). cond (is_ok x) (written 0 (letter ∷ body) mem) mem) p.0 in
     let all : missing_members new ≡ n = omega arith in
-    let whole : after ≡ written 0 (row_bytes letter body (take n members)) mem =
+    let whole : after ≡ written 0 (built_bytes letter body (take n members)) mem =
     w ∙ ap₂ (λ (x : Ticket) (y : List ℕ). members_memory x members y) p.1 front
     ∙ written_more mem (letter ∷ body) (written_members (take (missing_members new) members)) 0 (next_place new) (omega arith)
-    ∙ ap (λ k. written 0 (row_bytes letter body (take k members)) mem) all in (
-      whole ∙ sym (ap (λ (x : TicketVerdict). cond (is_ok x) (written 0 (row_bytes letter body (take n members)) mem) mem) p.0),
+    ∙ ap (λ k. written 0 (built_bytes letter body (take k members)) mem) all in (
+      whole ∙ sym (ap (λ (x : TicketVerdict). cond (is_ok x) (written 0 (built_bytes letter body (take n members)) mem) mem) p.0),
       whole,
     )
 
@@ -84,9 +84,9 @@ too_many m letter body room members t d e w =
 -- enough, or too few: Close decides
 pub closed : (m : Meaning) (letter : ℕ) (body mem after : List ℕ) (members : List Member) (t u : Ticket)
     → Ok t ≡ begin_result m letter body (length mem) → Ok u ≡ members_result t members → length after ≡ length mem
-    → after ≡ written 0 (row_bytes letter body (take (get_or body 0 0) members)) mem
+    → after ≡ written 0 (built_bytes letter body (take (get_or body 0 0) members)) mem
     → (close_verdict u (length after) ≡ build_verdict m letter body members (length mem))
-    × (build_verdict m letter body members (length mem) ≡ Ok tt → row_in u after ≡ row_bytes letter body members)
+    × (build_verdict m letter body members (length mem) ≡ Ok tt → row_in u after ≡ built_bytes letter body members)
 closed m letter body mem after members t u e g same w =
     let n = get_or body 0 0 in
     let k = length members in
@@ -108,9 +108,9 @@ closed m letter body mem after members t u e g same w =
           ∙ ap₂ (λ x y. checked (leb x y) MembersMissing (Ok tt)) count given ∙ sym built,
       (λ ok.
           let enough : n ≤ k = leb-true n k (checked_passed (leb n k) MembersMissing (Ok tt) (sym built ∙ ok)).0 in
-          let bytes : List ℕ = row_bytes letter body members in
+          let bytes : List ℕ = built_bytes letter body members in
           let long : length bytes ≡ row_length u = omega (arith, length-append body (written_members members), members_length members, ap row_length whole) in
-          ap (take (row_length u)) (w ∙ ap (λ (x : List Member). written 0 (row_bytes letter body x) mem) (take_all n members (omega arith)))
+          ap (take (row_length u)) (w ∙ ap (λ (x : List Member). written 0 (built_bytes letter body x) mem) (take_all n members (omega arith)))
           ∙ read_front mem bytes (row_length u) long (omega (arith, ap row_length whole, room))),
     )
 
@@ -167,15 +167,15 @@ module _ {B S : Type 0} {b : bank.Ghosts B} {s : store.Ghosts S} (m : Meaning) (
   -- r was returned for the whole row, with the memory and the table u afterwards
   pub record Built (r : Result Unit TicketRefusal) (after : List ℕ) : Type 0 where
     pub value : own_verdict r ≡ build_verdict m letter body members (length mem)
-    pub does : Posts (build_verdict m letter body members (length mem)) t (row_bytes letter body members) (build_answer r) u
-    pub history : PostExtends (build_verdict m letter body members (length mem)) t (row_bytes letter body members) (build_answer r) u
+    pub does : Posts (build_verdict m letter body members (length mem)) t (built_bytes letter body members) (build_answer r) u
+    pub history : PostExtends (build_verdict m letter body members (length mem)) t (built_bytes letter body members) (build_answer r) u
     pub memory : after ≡ build_memory m letter body members mem
 
   -- refused before Close
   pub built_not : (r : Result Unit TicketRefusal) (after : List ℕ) (f : TicketRefusal) → u ≡ t → r ≡ Err f
       → build_verdict m letter body members (length mem) ≡ Err f → after ≡ build_memory m letter body members mem → Built r after
   built_not r after f same e v w =
-      let s = stays t u (build_answer r) (build_verdict m letter body members (length mem)) f (row_bytes letter body members) v same in
+      let s = stays t u (build_answer r) (build_verdict m letter body members (length mem)) f (built_bytes letter body members) v same in
       record { value = ap own_verdict (e ∙ sym v) ∙ own_build m letter body members (length mem); does = s.0; history = s.1; memory = w }
 
   -- after Close
@@ -191,7 +191,7 @@ module _ {B S : Type 0} {b : bank.Ghosts B} {s : store.Ghosts S} (m : Meaning) (
       let c = closed m letter body mem after members ticket given b g same f.1 in
       let v = close_verdict given (length after) in
       let a : close_answer r ≡ build_answer s = answer_same r ∙ ap build_answer (sym e) in
-      let bytes = row_bytes letter body members in
+      let bytes = built_bytes letter body members in
       let d : Posts v t (row_in given after) (build_answer s) u = subst (λ (y : Answer). Posts v t (row_in given after) y u) a does in
       let l : PostExtends v t (row_in given after) (build_answer s) u = subst (λ (y : Answer). PostExtends v t (row_in given after) y u) a history in
       record {

@@ -34,8 +34,8 @@ members_memory t members memory =
 -- ---- the whole row
 
 -- the bytes of the row with this letter, body and members
-abbrev pub row_bytes : ℕ → List ℕ → List Member → List ℕ
-row_bytes letter body members =
+abbrev pub built_bytes : ℕ → List ℕ → List Member → List ℕ
+built_bytes letter body members =
     written_row (record { letter = letter; body = body; members = members })
 
 -- the members are as many as the body's first byte says
@@ -59,7 +59,7 @@ build_verdict m letter body members room =
 abbrev pub build_memory : Meaning → ℕ → List ℕ → List Member → List ℕ → List ℕ
 build_memory m letter body members memory =
     cond (is_ok (begin_verdict m letter body (length memory)))
-    (written 0 (row_bytes letter body (take (slice_index body 0) members)) memory) memory
+    (written 0 (built_bytes letter body (take (slice_index body 0) members)) memory) memory
 
 -- the answer
 abbrev pub build_answer : Result Unit TicketRefusal → Answer

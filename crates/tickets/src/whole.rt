@@ -2,7 +2,7 @@
 ghost use Rattle.std.specs.Prelude.{◌≡◌, ◌≤◌, length};
 ghost use Rattle.tickets.specs.Building.{row_length};
 ghost use Rattle.tickets.specs.Closing.{Posts, PostExtends};
-ghost use Rattle.tickets.specs.Whole.{row_bytes, build_verdict, build_memory, build_answer, own_verdict, members_result, members_memory};
+ghost use Rattle.tickets.specs.Whole.{built_bytes, build_verdict, build_memory, build_answer, own_verdict, members_result, members_memory};
 
 use crate::refusal::TicketRefusal;
 use crate::ticket::{HandedBack, Ticket};
@@ -40,11 +40,11 @@ pub fn build<B: Bank, S: Store>(
         ≡ build_verdict B.Bank.meaning letter body.now members.now (length memory.old) }
     ensures does { let verdict =
         build_verdict B.Bank.meaning letter body.now members.now (length memory.old) in
-        let bytes = row_bytes letter body.now members.now in
+        let bytes = built_bytes letter body.now members.now in
         Posts verdict table.old bytes (build_answer result) table.new }
     ensures history { let verdict =
         build_verdict B.Bank.meaning letter body.now members.now (length memory.old) in
-        let bytes = row_bytes letter body.now members.now in
+        let bytes = built_bytes letter body.now members.now in
         PostExtends verdict table.old bytes (build_answer result) table.new }
     ensures memory { memory.new
         ≡ build_memory B.Bank.meaning letter body.now members.now memory.old }

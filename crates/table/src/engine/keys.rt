@@ -2,7 +2,7 @@
 ghost use Rattle.std.specs.Prelude.{◌≡◌, ◌+◌, ◌*◌, ◌≤◌, length, vec_len};
 ghost use Rattle.rows.specs.Views.{rows_of};
 ghost use Rattle.stores.specs.Keys.{key};
-ghost use Rattle.stores.specs.Stores.{member};
+ghost use Rattle.stores.specs.Stores.{is_held};
 ghost use Rattle.table.specs.Levels.{KeyGiven};
 ghost use Rattle.rows.specs.declared.limits.TheConstants.{MOST_ROWS, MOST_VOICES};
 
@@ -41,7 +41,7 @@ impl KeyBuffer {
     ) -> bool
         requires sets { length sets.now ≤ MOST_VOICES }
         requires rows { length rows.now ≤ MOST_ROWS }
-        ensures { result ≡ member (key B.Bank.meaning (rows_of rows.now) sets.now)
+        ensures { result ≡ is_held (key B.Bank.meaning (rows_of rows.now) sets.now)
             (S.Store.behaviour.view (S.Store.state store.now)).held }
     {
         if store.is_empty() {

@@ -17,7 +17,7 @@ use stores::store::Store;
 
 // What a node is.
 #[derive(Clone, Copy, Debug, PartialEq, Eq)]
-pub(crate) enum Node {
+pub(crate) enum NodeClass {
     // a set is empty
     Dead,
     // all voices are fixed
@@ -52,7 +52,7 @@ pub(crate) fn classify<B: Bank, S: Store>(
     sets: &mut [ValueSet],
     keys: &mut KeyBuffer,
     store: &S,
-) -> Node
+) -> NodeClass
     requires few { length rows.now ≤ MOST_ROWS }
     requires narrow { length sets.old ≤ MOST_VOICES }
     requires inside { from ≤ length sets.old }
@@ -63,13 +63,13 @@ pub(crate) fn classify<B: Bank, S: Store>(
     ensures branches { Branches result from sets.new }
 {
     if propagate::<B>(rows, sets) {
-        return Node::Dead;
+        return NodeClass::Dead;
     }
     let Some(v) = first_open(sets, from) else {
-        return Node::Solution;
+        return NodeClass::Solution;
     };
     if keys.find::<B, S>(rows, sets, store) {
-        return Node::Hit;
+        return NodeClass::Hit;
     }
-    Node::Branch(v)
+    NodeClass::Branch(v)
 }

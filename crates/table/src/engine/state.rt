@@ -10,7 +10,7 @@ ghost use Rattle.rows.specs.declared.limits.TheConstants.{MOST_OPENED, MOST_VOIC
 use crate::engine::keys::KeyBuffer;
 use crate::engine::level::End;
 use crate::engine::levels::Levels;
-use crate::engine::node::{Node, classify};
+use crate::engine::node::{NodeClass, classify};
 use crate::outcome::Outcome;
 use rows::bank::Bank;
 use rows::limits::{MOST_OPENED, MOST_ROWS, MOST_VOICES};
@@ -42,7 +42,7 @@ pub(crate) struct Search {
 
 // Each method says that there are as many voices as before, which no ghost field can say.
 impl Search {
-    ghost use Rattle.table.specs.Searches.{Begun, voice_count, node_sets, place, outcome_of, table_of, Ran, Runs};
+    ghost use Rattle.table.specs.Searches.{Begun, voice_count, node_sets, place_in, outcome_of, table_of, Ran, Runs};
 
     // A search with no voices that has not begun.
     pub(crate) fn new(heap: Global) -> Result<Search, AllocError>
@@ -76,7 +76,7 @@ impl Search {
 
     // What the search has come to.
     pub(crate) fn outcome(&self) -> Outcome
-        ensures { result ≡ outcome_of (place self.now) }
+        ensures { result ≡ outcome_of (place_in self.now) }
     {
         if !self.levels.is_empty() {
             return Outcome::Stopped;
@@ -90,7 +90,7 @@ impl Search {
 
     // Whether the search is over.
     pub(crate) fn is_over(&self) -> bool
-        ensures { result ≡ over (place self.now) }
+        ensures { result ≡ over (place_in self.now) }
     {
         self.levels.is_empty() && matches!(self.end, End::Found | End::Exhausted)
     }
@@ -118,7 +118,7 @@ impl Search {
 
     // Opens the root, or the next child of the newest level.
     fn step<B: Bank, S: Store>(&mut self, rows: &[Row], voices: &[ValueSet], store: &mut S)
-        requires open { over (place self.old) ≡ false }
+        requires open { over (place_in self.old) ≡ false }
         requires voices { length voices.now ≡ voice_count self.old }
         requires rows { length rows.now ≤ MOST_ROWS }
         requires few { self.old.opened < MOST_OPENED }
@@ -134,15 +134,15 @@ impl Search {
         let node = classify::<B, S>(rows, from, &mut self.sets, &mut self.keys, store);
         self.opened += 1;
         match node {
-            Node::Dead | Node::Hit => {
+            NodeClass::Dead | NodeClass::Hit => {
                 self.exhausted += self.levels.back_up::<B, S>(rows, &mut self.keys, store) as u64;
                 self.end = End::Exhausted;
             }
-            Node::Solution => {
+            NodeClass::Solution => {
                 self.levels.clear();
                 self.end = End::Found;
             }
-            Node::Branch(v) => self.levels.push(v, &self.sets),
+            NodeClass::Branch(v) => self.levels.push(v, &self.sets),
         }
     }
 

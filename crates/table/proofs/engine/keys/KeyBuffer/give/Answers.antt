@@ -1,7 +1,7 @@
 use Rattle.std.proofs.Common.{◌≤◌, cond, length, refl, arith}
 use Rattle.rows.specs.Views.{rows_of}
 use Rattle.stores.specs.Keys.{key}
-use Rattle.stores.specs.Stores.{member}
+use Rattle.stores.specs.Stores.{is_held}
 use Rattle.stores.specs.declared.store.Stored.TheVariants.{Kept, Lost}
 use Rattle.stores.proofs.Writing.{key_length}
 use Rattle.table.proofs.Tests.{key_not}
@@ -10,7 +10,7 @@ use Rattle.table.proofs.engine.keys.KeyBuffer.give.Goals as goal
 pub returns-then-turns_away : goal.returns-then-turns_away
 returns-then-turns_away g c =
     let k = key g.B.Bank.meaning (rows_of c.args.rows.now) c.args.sets.now in
-    (cond (member k (g.S.Store.behaviour.view (g.S.Store.state c.args.store.now)).held) Kept Lost, (c.if-turns_away.ensures refl k (key_length g.B.Bank.meaning c.args.rows.now c.args.sets.now)).may)
+    (cond (is_held k (g.S.Store.behaviour.view (g.S.Store.state c.args.store.now)).held) Kept Lost, (c.if-turns_away.ensures refl k (key_length g.B.Bank.meaning c.args.rows.now c.args.sets.now)).may)
 
 pub returns-in_default : goal.returns-in_default
 returns-in_default g c =

@@ -7,7 +7,7 @@ use Rattle.table.specs.declared.engine.level.End.TheVariants.{Found, Exhausted}
 use Rattle.table.specs.Nodes.{node_of}
 use Rattle.table.specs.Places.{place_of}
 use Rattle.table.specs.Stacks.{levels_in}
-use Rattle.table.specs.Searches.{place, levels_of, node_sets}
+use Rattle.table.specs.Searches.{place_in, levels_of, node_sets}
 use Rattle.table.proofs.Openings.{failed, opened_failed, opened_solution, opened_branch}
 use Rattle.table.proofs.Searching.{next_step, ran_one}
 use Rattle.table.proofs.engine.state.Search.step.Goals as goal
@@ -28,7 +28,7 @@ returns-in-Dead-clause-goes g c =
     let long : length c.enter_next.new.sets ≡ s.sets.len = omega arith in
     let opened = opened_failed g.S.Store.behaviour m rows first t (levels_of s) v c.fixed_below-from.result (node_of r t) (levels_in c.enter_next.new.self) w rest last n (failed r t c.in-Dead.is)
     c.classify-node.ensures.after (c.fixed_below-from.ensures.value ∙ ap below c.enter_next.ensures.list) c.classify-node.ensures.value c.enter_next.ensures.list c.back_up.ensures.backs in
-    ran_one g.S.Store.behaviour m c.args.voices.now rows (place s) (place_of Exhausted last rest) s.opened s.exhausted (s.opened + 1) (s.exhausted + n) v w n refl refl
+    ran_one g.S.Store.behaviour m c.args.voices.now rows (place_in s) (place_of Exhausted last rest) s.opened s.exhausted (s.opened + 1) (s.exhausted + n) v w n refl refl
     (next_step g.S.Store.behaviour m c.args.voices.now rows first (levels_of s) s.end (node_sets s) v w (place_of Exhausted last rest) n c.requires.open
     (c.deref_mut-2.ensures.value ∙ with_items_is s.sets c.enter_next.new.sets long ∙ c.enter_next.ensures.after) opened)
 
@@ -47,7 +47,7 @@ returns-in-Solution-clause-goes g c =
     let opened = opened_solution g.S.Store.behaviour m rows first t (levels_of s) v c.fixed_below-from.result rest last
     c.classify-node.ensures.after (c.fixed_below-from.ensures.value ∙ ap below c.enter_next.ensures.list) c.in-Solution.ensures.value c.clear.ensures.level_none
     (with_items_is (with_items s.sets c.enter_next.new.sets) t long2) in
-    ran_one g.S.Store.behaviour m c.args.voices.now rows (place s) (place_of Found last rest) s.opened s.exhausted (s.opened + 1) s.exhausted v v 0 refl (omega arith)
+    ran_one g.S.Store.behaviour m c.args.voices.now rows (place_in s) (place_of Found last rest) s.opened s.exhausted (s.opened + 1) s.exhausted v v 0 refl (omega arith)
     (next_step g.S.Store.behaviour m c.args.voices.now rows first (levels_of s) s.end (node_sets s) v v (place_of Found last rest) 0 c.requires.open
     (c.deref_mut-2.ensures.value ∙ with_items_is s.sets c.enter_next.new.sets long ∙ c.enter_next.ensures.after) opened)
 
@@ -68,6 +68,6 @@ returns-in-Branch-clause-goes g c =
     c.classify-node.ensures.after (c.fixed_below-from.ensures.value ∙ ap below c.enter_next.ensures.list) c.in-Branch.ensures.value
     (c.push.ensures.list ∙ ap (λ (x : List ℕ). at x ∷ levels_in c.enter_next.new.self) (c.deref.ensures.value ∙ with_items_is (with_items s.sets c.enter_next.new.sets) t long2)
     ∙ ap (λ (x : List Level). at c.classify-node.new.sets ∷ x) c.enter_next.ensures.list) in
-    ran_one g.S.Store.behaviour m c.args.voices.now rows (place s) (place_of s.end last rest) s.opened s.exhausted (s.opened + 1) s.exhausted v v 0 refl (omega arith)
+    ran_one g.S.Store.behaviour m c.args.voices.now rows (place_in s) (place_of s.end last rest) s.opened s.exhausted (s.opened + 1) s.exhausted v v 0 refl (omega arith)
     (next_step g.S.Store.behaviour m c.args.voices.now rows first (levels_of s) s.end (node_sets s) v v (place_of s.end last rest) 0 c.requires.open
     (c.deref_mut-2.ensures.value ∙ with_items_is s.sets c.enter_next.new.sets long ∙ c.enter_next.ensures.after) opened)
