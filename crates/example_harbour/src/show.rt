@@ -1,11 +1,15 @@
 // Sets and rows as text.
-use sets::{ValueSet, contains};
+use sets::{ValueSet, take_least};
 use std::alloc::{AllocError, Global};
 
 // The values of a set in braces, ascending. (A function and not Display: to the language a set is a number.)
 pub(crate) fn set_text(heap: Global, set: ValueSet) -> Result<String, AllocError> {
     let mut text = String::from_str(heap, "{")?;
-    for value in (0..64u32).filter(|v| contains(set, *v)) {
+    let mut left = set;
+    for _ in 0..set.count_ones() {
+        let Some(value) = take_least(&mut left) else {
+            break;
+        };
         if text.len() > 1 {
             text.push_str(" ")?;
         }

@@ -3,48 +3,44 @@ use crate::title;
 use kinds::FourKinds;
 use rows::limits::MOST_VOICES;
 use rows::row::Row;
+use std::alloc::Global;
 use std::io;
 use stores::store::Store;
 use table::Table;
 use table::outcome::Outcome;
+use table::refusal::Refusal;
 
 // How many nodes each call of `solve` may open, and how often it is called at most.
 const BUDGET: u64 = 4;
 
 const MOST_CALLS: u32 = 1_000;
 
-// Declares the title's voices. One that is declined is printed with its refusal's number.
-fn declare_voices<S: Store>(rt: &HostRuntime, table: &mut Table<FourKinds, S>) -> io::Result<()> {
-    for (i, voice) in title::VOICES.iter().enumerate() {
-        if let Err(refusal) = table.declare(voice.places) {
-            let number = refusal.number();
-            println!(rt; "voice {i} is declined with {number}")?;
-        }
+// Declares the title's voices; an error where one is refused.
+fn declare_voices<S: Store>(table: &mut Table<FourKinds, S>) -> Result<(), Refusal> {
+    for voice in &title::VOICES {
+        table.declare(voice.places)?;
     }
     Ok(())
 }
 
-// Posts the rows. One that is declined is printed with its refusal's number.
+// Posts the rows; an error where one is refused.
 fn post_rows<S: Store>(
-    rt: &HostRuntime,
+    heap: Global,
     table: &mut Table<FourKinds, S>,
     rows: &[Row],
-) -> io::Result<()> {
-    for (i, row) in rows.iter().enumerate() {
-        let bytes = row.to_bytes(rt.alloc())?;
-        if let Err(refusal) = table.post(&bytes) {
-            let number = refusal.number();
-            println!(rt; "row {i} is declined with {number}")?;
-        }
+) -> anyhow::Result<()> {
+    for row in rows {
+        let bytes = row.to_bytes(heap)?;
+        table.post(&bytes)?;
     }
     Ok(())
 }
 
 fn print_placing<S: Store>(rt: &HostRuntime, table: &Table<FourKinds, S>) -> io::Result<()> {
     let mut values = [0u8; MOST_VOICES];
-    if let Ok(count) = table.read(&mut values) {
+    if table.read(&mut values).is_ok() {
         println!(rt; "placing")?;
-        for (voice, value) in title::VOICES.iter().zip(values.iter()).take(count) {
+        for (voice, value) in title::VOICES.iter().zip(&values) {
             let name = voice.name;
             println!(rt; "  {name} {value}")?;
         }
@@ -57,15 +53,13 @@ pub(crate) fn solve_title<S: Store + Drop>(
     rt: &HostRuntime,
     store: S,
     rows: &[Row],
-) -> io::Result<()> {
+) -> anyhow::Result<()> {
     let mut table: Table<FourKinds, S> = Table::make(rt.alloc(), store)?;
-    declare_voices(rt, &mut table)?;
-    post_rows(rt, &mut table, rows)?;
+    declare_voices(&mut table)?;
+    post_rows(rt.alloc(), &mut table, rows)?;
     println!(rt; "solving, {BUDGET} nodes at a time")?;
     for _ in 0..MOST_CALLS {
-        let Ok(outcome) = table.solve(BUDGET) else {
-            return Ok(());
-        };
+        let outcome = table.solve(BUDGET)?;
         let opened = table.opened();
         let exhausted = table.exhausted();
         println!(rt; "  {outcome}: opened {opened}, exhausted {exhausted}")?;
@@ -73,5 +67,6 @@ pub(crate) fn solve_title<S: Store + Drop>(
             break;
         }
     }
-    print_placing(rt, &table)
+    print_placing(rt, &table)?;
+    Ok(())
 }

@@ -19,7 +19,8 @@ pub(crate) fn true_or_refuted(heap: Global) -> anyhow::Result<Example> {
             Literal::Is { voice: 3, value: 1 },
         ],
     )?;
-    let problem = Problem::new(4, vec![in heap; clause]?)?;
+    let mut problem = Problem::new(heap, 4);
+    problem.push(clause)?;
     let no = set(&[0]);
     let yes = set(&[1]);
     let open = set(&[0, 1]);

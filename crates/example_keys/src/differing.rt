@@ -10,7 +10,8 @@ use std::alloc::Global;
 // the key the open sets {2, 3, 4}, {3, 4, 5}, {3, 4, 5} and that content, both times.
 pub(crate) fn swapped_values(heap: Global) -> anyhow::Result<Example> {
     let row = AllDifferent::row(heap, &[0, 1, 2, 3, 4])?;
-    let problem = Problem::new(5, vec![in heap; row]?)?;
+    let mut problem = Problem::new(heap, 5);
+    problem.push(row)?;
     let c = set(&[2, 3, 4]);
     let d = set(&[3, 4, 5]);
     let first = problem.key(heap, &[set(&[1]), set(&[2]), c, d, d])?;
@@ -30,7 +31,8 @@ pub(crate) fn swapped_values(heap: Global) -> anyhow::Result<Example> {
 // 6} to each of the other three.
 pub(crate) fn values_in_another_order(heap: Global) -> anyhow::Result<Example> {
     let row = AllDifferent::row(heap, &[0, 1, 2, 3, 4, 5])?;
-    let problem = Problem::new(6, vec![in heap; row]?)?;
+    let mut problem = Problem::new(heap, 6);
+    problem.push(row)?;
     let all = set(&[1, 2, 3, 4, 5, 6]);
     let three = set(&[3]);
     let four = set(&[4]);
@@ -56,12 +58,10 @@ pub(crate) fn values_in_another_order(heap: Global) -> anyhow::Result<Example> {
 // kept, which is more than need be, but never wrong. The first voice matters no more: 5 in place of its 3 leaves the
 // same key.
 pub(crate) fn unequal_pairs(heap: Global) -> anyhow::Result<Example> {
-    let pairs = vec![in heap;
-        AllDifferent::row(heap, &[0, 1])?,
-        AllDifferent::row(heap, &[1, 2])?,
-        AllDifferent::row(heap, &[2, 3])?,
-    ]?;
-    let problem = Problem::new(4, pairs)?;
+    let mut problem = Problem::new(heap, 4);
+    problem.push(AllDifferent::row(heap, &[0, 1])?)?;
+    problem.push(AllDifferent::row(heap, &[1, 2])?)?;
+    problem.push(AllDifferent::row(heap, &[2, 3])?)?;
     let four = set(&[4]);
     let c = set(&[0, 1, 2, 3, 5, 6]);
     let d = set(&[0, 1, 2, 3, 4, 5, 6]);

@@ -13,7 +13,8 @@ use std::alloc::Global;
 // be: the index's set says it already.
 pub(crate) fn index_and_result(heap: Global) -> anyhow::Result<Example> {
     let row = Element::row(heap, 0, 1, &[4, 7, 4])?;
-    let problem = Problem::new(2, vec![in heap; row]?)?;
+    let mut problem = Problem::new(heap, 2);
+    problem.push(row)?;
     let by_index = problem.narrowed(heap, &[set(&[1]), set(&[4, 5, 6, 7])])?;
     let by_result = problem.narrowed(heap, &[set(&[0, 1, 2]), set(&[4, 5])])?;
     let came_out = by_index.as_slice() == [set(&[1]), set(&[7])].as_slice()

@@ -3,7 +3,6 @@
 use crate::example::Example;
 use crate::problem::{Problem, Searched, finds, search_over, set};
 use kinds::linear::Linear;
-use rows::row::{Row, RowError};
 use sets::ValueSet;
 use std::alloc::Global;
 use stores::bare::Bare;
@@ -24,11 +23,9 @@ const OPENING: [ValueSet; 5] = [OPEN; 5];
 // negated profits and the bound -10, so that the wanted 3 reads -3. The first and third weigh 7 and bring 10: another
 // key.
 pub(crate) fn weight_and_profit(heap: Global) -> anyhow::Result<Example> {
-    let rows = vec![in heap;
-        Linear::row(heap, 10, &[(0, 2), (1, 3), (2, 5), (3, 4), (4, 4)])?,
-        Linear::row(heap, -10, &[(0, -3), (1, -4), (2, -7), (3, -2), (4, -2)])?,
-    ]?;
-    let problem = Problem::new(5, rows)?;
+    let mut problem = Problem::new(heap, 5);
+    problem.push(Linear::row(heap, 10, &[(0, 2), (1, 3), (2, 5), (3, 4), (4, 4)])?)?;
+    problem.push(Linear::row(heap, -10, &[(0, -3), (1, -4), (2, -7), (3, -2), (4, -2)])?)?;
     let left = set(&[0]);
     let taken = set(&[1]);
     let two_things = [taken, taken, left, OPEN, OPEN];
@@ -49,18 +46,23 @@ pub(crate) fn weight_and_profit(heap: Global) -> anyhow::Result<Example> {
 
 // Two large things of weight 5 and profit 4, three small ones of weight 2 and profit 3, and a limit of 8; the profit
 // is to be this or more.
-fn rows(heap: Global, profit: u8) -> Result<[Row; 2], RowError> {
+fn two_large_three_small(heap: Global, profit: u8) -> anyhow::Result<Problem> {
     let bound = -i32::from(profit);
-    Ok([
-        Linear::row(heap, 8, &[(0, 5), (1, 5), (2, 2), (3, 2), (4, 2)])?,
-        Linear::row(heap, bound, &[(0, -4), (1, -4), (2, -3), (3, -3), (4, -3)])?,
-    ])
+    let mut problem = Problem::new(heap, 5);
+    problem.push(Linear::row(heap, 8, &[(0, 5), (1, 5), (2, 2), (3, 2), (4, 2)])?)?;
+    problem.push(Linear::row(heap, bound, &[(0, -4), (1, -4), (2, -3), (3, -3), (4, -3)])?)?;
+    Ok(problem)
 }
 
 // The search for that profit, over a shelf.
 fn searched_with_store(heap: Global, profit: u8) -> anyhow::Result<Searched> {
     let mut words = [0u64; SHELF_WORDS];
-    search_over(heap, Shelf::new(&mut words), &OPENING, &rows(heap, profit)?)
+    search_over(
+        heap,
+        Shelf::new(&mut words),
+        &OPENING,
+        two_large_three_small(heap, profit)?.rows(),
+    )
 }
 
 // What the best of the first j things within weight w brings: the better of leaving the last of them, and of taking
@@ -87,7 +89,12 @@ pub(crate) fn greatest_profit(heap: Global) -> anyhow::Result<Example> {
 // fifth has its two nodes too: 7, and 3 exhausted.
 pub(crate) fn store_saves_nodes(heap: Global) -> anyhow::Result<Example> {
     let with = searched_with_store(heap, 10)?;
-    let without = search_over(heap, Bare, &OPENING, &rows(heap, 10)?)?;
+    let without = search_over(
+        heap,
+        Bare,
+        &OPENING,
+        two_large_three_small(heap, 10)?.rows(),
+    )?;
     let came_out = (with.outcome, with.opened, with.exhausted) == (Outcome::None, 5, 2)
         && (without.outcome, without.opened, without.exhausted) == (Outcome::None, 7, 3);
     Ok(Example::new(

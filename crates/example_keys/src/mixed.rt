@@ -7,11 +7,10 @@ use sets::ValueSet;
 use std::alloc::Global;
 
 fn problem(heap: Global) -> anyhow::Result<Problem> {
-    let rows = vec![in heap;
-        AllDifferent::row(heap, &[0, 1, 2, 3, 4, 5])?,
-        Linear::row(heap, 20, &[(0, 1), (1, 2), (2, 1), (3, 1), (4, 2)])?,
-    ]?;
-    Problem::new(6, rows)
+    let mut problem = Problem::new(heap, 6);
+    problem.push(AllDifferent::row(heap, &[0, 1, 2, 3, 4, 5])?)?;
+    problem.push(Linear::row(heap, 20, &[(0, 1), (1, 2), (2, 1), (3, 1), (4, 2)])?)?;
+    Ok(problem)
 }
 
 // The first three voices fixed to these values, d and e from {0, 1, 2}, the last from {1, 2, 6}.

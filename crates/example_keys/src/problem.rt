@@ -27,19 +27,32 @@ pub(crate) fn set(values: &[u32]) -> ValueSet {
     values.iter().fold(0, |set, value| set | single(*value))
 }
 
-// The rows of an example.
+// The rows of an example, over so many voices.
 #[derive(Drop)]
 pub(crate) struct Problem {
+    voices: usize,
     rows: Vec<Row>,
 }
 
 impl Problem {
-    // These rows, over so many voices; an error where their kinds decline one.
-    pub(crate) fn new(voices: usize, rows: Vec<Row>) -> anyhow::Result<Problem> {
-        for row in &rows {
-            FourKinds::accept(row, voices)?;
+    // No rows yet.
+    pub(crate) fn new(heap: Global, voices: usize) -> Problem {
+        Problem {
+            voices,
+            rows: Vec::new(heap),
         }
-        Ok(Problem { rows })
+    }
+
+    // Adds a row; an error where its kind refuses it.
+    pub(crate) fn push(&mut self, row: Row) -> anyhow::Result<()> {
+        FourKinds::accept(&row, self.voices)?;
+        self.rows.push(row)?;
+        Ok(())
+    }
+
+    // The rows, in the order in which they were added.
+    pub(crate) fn rows(&self) -> &[Row] {
+        &self.rows
     }
 
     // What propagation leaves of the sets.

@@ -8,7 +8,9 @@ use std::alloc::Global;
 // The row a + 2b + c + d + 2e <= 20 over five voices.
 fn up_to_twenty(heap: Global) -> anyhow::Result<Problem> {
     let row = Linear::row(heap, 20, &[(0, 1), (1, 2), (2, 1), (3, 1), (4, 2)])?;
-    Problem::new(5, vec![in heap; row]?)
+    let mut problem = Problem::new(heap, 5);
+    problem.push(row)?;
+    Ok(problem)
 }
 
 // Of two subproblems with the same fixed voices the one dominates the other if all that can still follow the other
@@ -41,7 +43,8 @@ pub(crate) fn smaller_sum_dominates(heap: Global) -> anyhow::Result<Example> {
 // settle the row.
 pub(crate) fn at_least_reads_negated(heap: Global) -> anyhow::Result<Example> {
     let row = Linear::row(heap, -10, &[(0, -1), (1, -1), (2, -1)])?;
-    let problem = Problem::new(3, vec![in heap; row]?)?;
+    let mut problem = Problem::new(heap, 3);
+    problem.push(row)?;
     let open = set(&[3, 4, 5, 6]);
     let sets = [set(&[1]), open, open];
     let came_out = problem.room(0, -10, &sets) == Some(-9)

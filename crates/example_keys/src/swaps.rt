@@ -7,11 +7,10 @@ use sets::ValueSet;
 use std::alloc::{AllocError, Global};
 
 fn problem(heap: Global) -> anyhow::Result<Problem> {
-    let rows = vec![in heap;
-        AllDifferent::row(heap, &[0, 1, 2, 3, 4])?,
-        Linear::row(heap, -4, &[(0, 1), (3, -1), (4, -1)])?,
-    ]?;
-    Problem::new(5, rows)
+    let mut problem = Problem::new(heap, 5);
+    problem.push(AllDifferent::row(heap, &[0, 1, 2, 3, 4])?)?;
+    problem.push(Linear::row(heap, -4, &[(0, 1), (3, -1), (4, -1)])?)?;
+    Ok(problem)
 }
 
 // The opening sets {1, 2, 3}, {1, 2, 3, 4}, {2, 3, 4, 5}, {1, 2, 3, 4, 5}, {1, 2, 3, 4, 5}, two of the voices fixed

@@ -1,15 +1,21 @@
 -- One node, and runs of nodes one after the other.
-use Rattle.std.proofs.Common.{◌≡◌, ℕ, ◌+◌, ◌≤◌, true, false, ◌⊎◌, List, [], ◌∷◌, refl, sym, subst, arith}
+use Rattle.std.proofs.Common.{◌≡◌, ℕ, ◌+◌, ◌≤◌, true, false, ◌⊎◌, List, [], ◌∷◌, get_or, refl, ap, ap₂, ◌∙◌, sym, subst, arith}
+use Rattle.sets.specs.Placings.{values}
 use Rattle.rows.specs.Rows.{RowData, Meaning}
 use Rattle.stores.specs.Behaviours.{Behaviour}
-use Rattle.search.specs.Search.{Level, Place, Opens, Steps, taken}
+use Rattle.search.specs.Search.{Level, Place, Opens, Steps, taken, node, below}
+use Rattle.search.specs.Search.Node.{solution, branch}
+use Rattle.search.specs.Propagation.{propagated}
 use Rattle.search.specs.Calls.{TableData, over, OpensNodes}
 use Rattle.table.specs.declared.engine.level.End.{End}
 use Rattle.table.specs.declared.engine.level.End.TheVariants.{Fresh, Found, Exhausted}
-use Rattle.table.specs.Levels.{next_sets, next_levels}
+use Rattle.table.specs.Levels.{Backed, next_sets, next_levels}
 use Rattle.table.specs.Places.{place_of}
 use Rattle.table.specs.Searches.{Ran, Runs}
-use Rattle.table.proofs.Openings.{Opened}
+use Rattle.table.specs.Nodes.{node_of}
+use Rattle.table.specs.declared.engine.node.NodeClass as code
+use Rattle.table.specs.declared.engine.node.NodeClass.TheVariants.{Dead, Hit}
+use Rattle.table.proofs.Openings.{Opened, failed, opened_failed, opened_solution, opened_branch}
 
 -- ---- the node that is opened next
 
@@ -43,6 +49,37 @@ module _ (st : Behaviour) where
         goes = OpensNodes.more 0 (table voices rows p o e) (table voices rows q (o + 1) (e + n)) v w w q n a.lost 0 a.steps
             (OpensNodes.stay (table voices rows q (o + 1) (e + n)) w);
       }))
+
+  -- ---- a step, by what its calls say
+
+  -- The search with the levels ls enters the sets s, which are propagated to t below the levels above; it then has the sets y.
+  module _ (m : Meaning) (voices : List ℕ) (rows : List RowData) (e : End) (x s t y : List ℕ) (ls above : List Level) (o n : ℕ) (v : st.State) (k : ℕ)
+      (going : over (place_of e x ls) ≡ false) (entered : s ≡ next_sets voices ls) (narrowed : t ≡ propagated m rows s) (fixed : k ≡ below above) (under : above ≡ next_levels ls) where
+    steps_by : (q : Place) (w : st.State) (i : ℕ) → Opened st m rows s (next_levels ls) v q w i
+        → Ran st m 1 (table voices rows (place_of e x ls) o n) v (table voices rows q (o + 1) (n + i)) w
+    steps_by q w i h =
+        ran_one m voices rows (place_of e x ls) q o n (o + 1) (n + i) v w i refl refl (next_step m voices rows s ls e x v w q i going entered h)
+
+    pub step_failed : (r : code.NodeClass) (rest : List Level) (w : st.State) (i : ℕ) → (r ≡ Dead) ⊎ (r ≡ Hit) → node m rows (st.view v) k t ≡ node_of r t
+        → Backed st m rows above v rest w i
+        → Ran st m 1 (table voices rows (place_of e x ls) o n) v (table voices rows (place_of Exhausted y rest) (o + 1) (n + i)) w
+    step_failed r rest w i f h b =
+        steps_by (place_of Exhausted y rest) w i
+        (opened_failed st m rows s t ls v k (node_of r t) above w rest y i (failed r t f) narrowed (fixed ∙ ap below under) h under b)
+
+    pub step_found : (rest : List Level) → node m rows (st.view v) k t ≡ solution (values t) → rest ≡ [] → y ≡ t
+        → Ran st m 1 (table voices rows (place_of e x ls) o n) v (table voices rows (place_of Found y rest) (o + 1) n) v
+    step_found rest h q z =
+        subst (λ (j : ℕ). Ran st m 1 (table voices rows (place_of e x ls) o n) v (table voices rows (place_of Found y rest) (o + 1) j) v) (omega arith)
+        (steps_by (place_of Found y rest) v 0 (opened_solution st m rows s t ls v k rest y narrowed (fixed ∙ ap below under) h q z))
+
+    pub step_branched : (j : ℕ) (rest : List Level) (z : List ℕ) → node m rows (st.view v) k t ≡ branch (record { sets = t; voice = j; left = get_or t j 0 })
+        → z ≡ t → rest ≡ record { sets = z; voice = j; left = get_or z j 0 } ∷ above
+        → Ran st m 1 (table voices rows (place_of e x ls) o n) v (table voices rows (place_of e y rest) (o + 1) n) v
+    step_branched j rest z h q p =
+        subst (λ (i : ℕ). Ran st m 1 (table voices rows (place_of e x ls) o n) v (table voices rows (place_of e y rest) (o + 1) i) v) (omega arith)
+        (steps_by (place_of e y rest) v 0 (opened_branch st m rows s t ls v k (record { sets = t; voice = j; left = get_or t j 0 }) rest e y narrowed (fixed ∙ ap below under) h
+        (p ∙ ap₂ (λ (a : List ℕ) (b : List Level). record { sets = a; voice = j; left = get_or a j 0 } ∷ b) q under)))
 
   recount : {m : Meaning} {b c : ℕ} {t : TableData} {v : st.State} {u : TableData} {w : st.State} {i j : ℕ} → b ≡ c → i ≡ j → OpensNodes st m b t v u w i
       → OpensNodes st m c t v u w j

@@ -22,9 +22,12 @@ fn row(heap: Global, letter: u8, rest: &[u8], members: &[(u16, i16)]) -> Result<
     Ok(row)
 }
 
-// The number of the refusal, where a row is declined.
+// The number of the refusal, where a row is refused.
 fn number(verdict: Result<(), KindRefusal>) -> Option<u8> {
-    verdict.err().map(|fault| fault.number())
+    match verdict {
+        Ok(()) => None,
+        Err(refusal) => Some(refusal.number()),
+    }
 }
 
 fn linear_number(heap: Global, bound: i32, coefficient: i16) -> Result<Option<u8>, RowError> {

@@ -4,23 +4,41 @@ use stores::bare::Bare;
 use stores::shelf::Shelf;
 use stores::store::{Store, Stored};
 
-// Keys of one word, equal prefixes, other lengths, a held key kept again without moving.
+// Keys given to a shelf of 16 words, one after the other, and what becomes of each: keys of one word, of equal
+// prefixes, and a held one, which does not move. Then 8 words are used: a key of 7 fits exactly, and no more does.
+static KEPT: [(&[u64], Stored); 7] = [
+    (&[7], Stored::Kept),
+    (&[7, 7], Stored::Kept),
+    (&[7, 8], Stored::Kept),
+    (&[7, 7], Stored::Kept),
+    (&[1, 2, 3, 4, 5, 6, 7], Stored::Kept),
+    (&[9], Stored::Lost),
+    (&[7], Stored::Kept),
+];
+
+// Keys looked up after that, and whether the shelf holds them: also a prefix, other lengths, and no words.
+static FOUND: [(&[u64], bool); 9] = [
+    (&[7], true),
+    (&[7, 7], true),
+    (&[7, 8], true),
+    (&[1, 2, 3, 4, 5, 6, 7], true),
+    (&[8], false),
+    (&[9], false),
+    (&[7, 9], false),
+    (&[7, 7, 7], false),
+    (&[], false),
+];
+
 #[test]
 fn small_keys(rt: HostRuntime) {
     let mut words = [0u64; 16];
     let mut shelf = Shelf::new(&mut words);
-    assert!(rt; shelf.keep(&[7]) == Stored::Kept);
-    assert!(rt; shelf.keep(&[7, 7]) == Stored::Kept);
-    assert!(rt; shelf.keep(&[7, 8]) == Stored::Kept);
-    assert!(rt; shelf.find(&[7]) && shelf.find(&[7, 7]) && shelf.find(&[7, 8]));
-    assert!(rt;
-        !shelf.find(&[8]) && !shelf.find(&[7, 9]) && !shelf.find(&[7, 7, 7]) && !shelf.find(&[])
-    );
-    assert!(rt; shelf.keep(&[7, 7]) == Stored::Kept);
-    // 8 of 16 words are used: a key of 7 fits exactly
-    assert!(rt; shelf.keep(&[1, 2, 3, 4, 5, 6, 7]) == Stored::Kept);
-    assert!(rt; shelf.keep(&[9]) == Stored::Lost);
-    assert!(rt; shelf.keep(&[7]) == Stored::Kept);
+    for (key, stored) in &KEPT {
+        assert_eq!(rt; shelf.keep(key), *stored);
+    }
+    for (key, is_held) in &FOUND {
+        assert_eq!(rt; shelf.find(key), *is_held);
+    }
     shelf.clear();
     assert!(rt; !shelf.find(&[7]));
 }
