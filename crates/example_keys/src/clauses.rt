@@ -24,11 +24,11 @@ pub(crate) fn true_or_refuted(heap: Global) -> anyhow::Result<Example> {
     let no = set(&[0]);
     let yes = set(&[1]);
     let open = set(&[0, 1]);
-    let forced = problem.narrowed(heap, &[no, yes, no, open])?;
+    let forced = [no, yes, no, yes];
     let came_out = problem.trace(0, &[yes, open, open, open]) == Some(Trace::Settled)
         && problem.trace(0, &[open, no, open, open]) == Some(Trace::Settled)
         && problem.trace(0, &[no, yes, open, open]) == Some(Trace::Open(0))
-        && forced.as_slice() == [no, yes, no, yes].as_slice()
+        && problem.narrows_to(heap, &[no, yes, no, open], &forced)?
         && problem.trace(0, &forced) == Some(Trace::Settled);
     Ok(Example::new(
         "clause: a true literal leaves nothing, refuted ones leave the others",

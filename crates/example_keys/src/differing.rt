@@ -1,6 +1,6 @@
 // Rows of values that all differ.
 use crate::example::Example;
-use crate::problem::{Problem, finds, set};
+use crate::problem::{Problem, set};
 use kinds::all_different::AllDifferent;
 use rows::trace::Trace;
 use std::alloc::Global;
@@ -14,12 +14,12 @@ pub(crate) fn swapped_values(heap: Global) -> anyhow::Result<Example> {
     problem.push(row)?;
     let c = set(&[2, 3, 4]);
     let d = set(&[3, 4, 5]);
-    let first = problem.key(heap, &[set(&[1]), set(&[2]), c, d, d])?;
-    let second = problem.key(heap, &[set(&[2]), set(&[1]), c, d, d])?;
+    let first = [set(&[1]), set(&[2]), c, d, d];
+    let second = [set(&[2]), set(&[1]), c, d, d];
     let expected = [0, 0, c, d, d, 1, set(&[1, 2])];
-    let came_out = first.as_slice() == expected.as_slice()
-        && second.as_slice() == expected.as_slice()
-        && finds(&first, &second) == Some(true);
+    let came_out = problem.has_key(heap, &first, &expected)?
+        && problem.has_key(heap, &second, &expected)?
+        && problem.finds(heap, &first, &second)? == Some(true);
     Ok(Example::new(
         "all different: fixed 1 2 and 2 1 leave the same key",
         came_out,
@@ -37,14 +37,14 @@ pub(crate) fn values_in_another_order(heap: Global) -> anyhow::Result<Example> {
     let three = set(&[3]);
     let four = set(&[4]);
     let five = set(&[5]);
-    let first = problem.narrowed(heap, &[three, four, five, all, all, all])?;
-    let second = problem.narrowed(heap, &[four, five, three, all, all, all])?;
     let left = set(&[1, 2, 6]);
+    let first = [three, four, five, left, left, left];
+    let second = [four, five, three, left, left, left];
     let expected = [0, 0, 0, left, left, left, 1, set(&[3, 4, 5])];
-    let came_out = first.as_slice() == [three, four, five, left, left, left].as_slice()
-        && second.as_slice() == [four, five, three, left, left, left].as_slice()
-        && problem.key(heap, &first)?.as_slice() == expected.as_slice()
-        && problem.key(heap, &second)?.as_slice() == expected.as_slice();
+    let came_out = problem.narrows_to(heap, &[three, four, five, all, all, all], &first)?
+        && problem.narrows_to(heap, &[four, five, three, all, all, all], &second)?
+        && problem.has_key(heap, &first, &expected)?
+        && problem.has_key(heap, &second, &expected)?;
     Ok(Example::new(
         "all different: 3 4 5 and 4 5 3 take the same values from the others and leave the same key",
         came_out,
@@ -66,13 +66,11 @@ pub(crate) fn unequal_pairs(heap: Global) -> anyhow::Result<Example> {
     let c = set(&[0, 1, 2, 3, 5, 6]);
     let d = set(&[0, 1, 2, 3, 4, 5, 6]);
     let sets = [set(&[3]), four, c, d];
-    let key = problem.key(heap, &sets)?;
-    let other_key = problem.key(heap, &[set(&[5]), four, c, d])?;
-    let came_out = problem.narrowed(heap, &sets)?.as_slice() == sets.as_slice()
+    let came_out = problem.narrows_to(heap, &sets, &sets)?
         && problem.trace(0, &sets) == Some(Trace::Settled)
         && problem.trace(1, &sets) == Some(Trace::Open(four))
         && problem.trace(2, &sets) == Some(Trace::Open(0))
-        && finds(&key, &other_key) == Some(true);
+        && problem.finds(heap, &sets, &[set(&[5]), four, c, d])? == Some(true);
     Ok(Example::new(
         "all different: of pairs in a line the settled one and the untouched one keep no value",
         came_out,

@@ -15,11 +15,11 @@ pub(crate) fn index_and_result(heap: Global) -> anyhow::Result<Example> {
     let row = Element::row(heap, 0, 1, &[4, 7, 4])?;
     let mut problem = Problem::new(heap, 2);
     problem.push(row)?;
-    let by_index = problem.narrowed(heap, &[set(&[1]), set(&[4, 5, 6, 7])])?;
-    let by_result = problem.narrowed(heap, &[set(&[0, 1, 2]), set(&[4, 5])])?;
-    let came_out = by_index.as_slice() == [set(&[1]), set(&[7])].as_slice()
+    let by_index = [set(&[1]), set(&[7])];
+    let by_result = [set(&[0, 2]), set(&[4])];
+    let came_out = problem.narrows_to(heap, &[set(&[1]), set(&[4, 5, 6, 7])], &by_index)?
         && problem.trace(0, &by_index) == Some(Trace::Settled)
-        && by_result.as_slice() == [set(&[0, 2]), set(&[4])].as_slice()
+        && problem.narrows_to(heap, &[set(&[0, 1, 2]), set(&[4, 5])], &by_result)?
         && problem.trace(0, &by_result) == Some(Trace::Open(4));
     Ok(Example::new(
         "element: a fixed index settles the row, a lacking result narrows the index",

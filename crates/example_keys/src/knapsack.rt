@@ -1,7 +1,7 @@
 // A knapsack: each thing is taken (1) or not (0), the weights are at most a limit, and the profit is to be as great
 // as can be: it has to pass the best known.
 use crate::example::Example;
-use crate::problem::{Problem, Searched, finds, search_over, set};
+use crate::problem::{Problem, Searched, search_over, set};
 use kinds::linear::Linear;
 use sets::ValueSet;
 use std::alloc::Global;
@@ -31,13 +31,12 @@ pub(crate) fn weight_and_profit(heap: Global) -> anyhow::Result<Example> {
     let two_things = [taken, taken, left, OPEN, OPEN];
     let one_thing = [left, left, taken, OPEN, OPEN];
     let others = [taken, left, taken, OPEN, OPEN];
-    let key = problem.key(heap, &two_things)?;
     let expected = [0, 0, 0, OPEN, OPEN, 1, 4_000_005, 1, 3_999_993];
-    let came_out = key.as_slice() == expected.as_slice()
+    let came_out = problem.has_key(heap, &two_things, &expected)?
         && problem.room(0, 10, &one_thing) == Some(5)
         && problem.room(1, -10, &one_thing) == Some(-3)
-        && finds(&key, &problem.key(heap, &one_thing)?) == Some(true)
-        && finds(&key, &problem.key(heap, &others)?) == Some(false);
+        && problem.finds(heap, &two_things, &one_thing)? == Some(true)
+        && problem.finds(heap, &two_things, &others)? == Some(false);
     Ok(Example::new(
         "knapsack: the decided things, the weight left and the profit wanted are the key",
         came_out,

@@ -1,6 +1,6 @@
 // Six voices that all differ, with a + 2b + c + d + 2e <= 20 over the first five.
 use crate::example::Example;
-use crate::problem::{Problem, finds, set};
+use crate::problem::{Problem, set};
 use kinds::all_different::AllDifferent;
 use kinds::linear::Linear;
 use sets::ValueSet;
@@ -43,8 +43,8 @@ pub(crate) fn whole_key(heap: Global) -> anyhow::Result<Example> {
         1,
         4_000_016,
     ];
-    let came_out = problem.narrowed(heap, &sets)?.as_slice() == sets.as_slice()
-        && problem.key(heap, &sets)?.as_slice() == expected.as_slice()
+    let came_out = problem.narrows_to(heap, &sets, &sets)?
+        && problem.has_key(heap, &sets, &expected)?
         && problem.room(1, 20, &sets) == Some(4);
     Ok(Example::new(
         "two rows: the key of 3 4 5 has the values, the sum 16 and the open sets",
@@ -56,9 +56,10 @@ pub(crate) fn whole_key(heap: Global) -> anyhow::Result<Example> {
 // the keys are equal, and the store finds the one by the other.
 pub(crate) fn same_values_and_sum(heap: Global) -> anyhow::Result<Example> {
     let problem = problem(heap)?;
-    let first = problem.key(heap, &fixed_to(3, 4, 5))?;
-    let second = problem.key(heap, &fixed_to(5, 4, 3))?;
-    let came_out = first.as_slice() == second.as_slice() && finds(&first, &second) == Some(true);
+    let first = fixed_to(3, 4, 5);
+    let second = fixed_to(5, 4, 3);
+    let came_out = problem.is_one_key(heap, &first, &second)?
+        && problem.finds(heap, &first, &second)? == Some(true);
     Ok(Example::new(
         "two rows: 3 4 5 and 5 4 3 leave the same key, and the store finds it",
         came_out,
@@ -71,24 +72,32 @@ pub(crate) fn same_values_and_sum(heap: Global) -> anyhow::Result<Example> {
 pub(crate) fn larger_sum_is_dominated(heap: Global) -> anyhow::Result<Example> {
     let problem = problem(heap)?;
     let earlier = fixed_to(3, 4, 5);
-    let sets = problem.narrowed(heap, &fixed_to(4, 5, 3))?;
+    let left = set(&[0, 1]);
+    let sets = [
+        set(&[4]),
+        set(&[5]),
+        set(&[3]),
+        set(&[0, 1, 2]),
+        left,
+        set(&[1, 2, 6]),
+    ];
     let expected = [
         0,
         0,
         0,
         set(&[0, 1, 2]),
-        set(&[0, 1]),
+        left,
         set(&[1, 2, 6]),
         1,
         set(&[3, 4, 5]),
         1,
         4_000_017,
     ];
-    let key = problem.key(heap, &sets)?;
-    let came_out = key.as_slice() == expected.as_slice()
+    let came_out = problem.narrows_to(heap, &fixed_to(4, 5, 3), &sets)?
+        && problem.has_key(heap, &sets, &expected)?
         && problem.trace(0, &sets) == problem.trace(0, &earlier)
         && problem.room(1, 20, &sets) == Some(3)
-        && finds(&problem.key(heap, &earlier)?, &key) == Some(false);
+        && problem.finds(heap, &earlier, &sets)? == Some(false);
     Ok(Example::new(
         "two rows: 4 5 3 leaves less than 3 4 5, and the store does not find it",
         came_out,

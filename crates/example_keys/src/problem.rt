@@ -83,22 +83,57 @@ impl Problem {
         }
     }
 
+    // Whether propagation leaves just this of the sets.
+    pub(crate) fn narrows_to(
+        &self,
+        heap: Global,
+        sets: &[ValueSet],
+        left: &[ValueSet],
+    ) -> Result<bool, AllocError> {
+        Ok(self.narrowed(heap, sets)?.as_slice() == left)
+    }
+
     // The key of the sets.
-    pub(crate) fn key(&self, heap: Global, sets: &[ValueSet]) -> Result<Vec<u64>, AllocError> {
+    fn key(&self, heap: Global, sets: &[ValueSet]) -> Result<Vec<u64>, AllocError> {
         let mut words = Vec::from_elem(heap, 0u64, MOST_KEY_WORDS)?;
         let length = write_key::<FourKinds>(&self.rows, sets, &mut words).unwrap_or(0);
         words.truncate(length);
         Ok(words)
     }
-}
 
-// Whether a store that has kept the one key finds the other. None where it does not keep it.
-pub(crate) fn finds(kept: &[u64], wanted: &[u64]) -> Option<bool> {
-    let mut words = [0u64; SHELF_WORDS];
-    let mut shelf = Shelf::new(&mut words);
-    match shelf.keep(kept) {
-        Stored::Kept => Some(shelf.find(wanted)),
-        Stored::Lost => None,
+    // Whether this is the key of the sets.
+    pub(crate) fn has_key(
+        &self,
+        heap: Global,
+        sets: &[ValueSet],
+        key: &[u64],
+    ) -> Result<bool, AllocError> {
+        Ok(self.key(heap, sets)?.as_slice() == key)
+    }
+
+    // Whether the two lists of sets have the same key.
+    pub(crate) fn is_one_key(
+        &self,
+        heap: Global,
+        first: &[ValueSet],
+        second: &[ValueSet],
+    ) -> Result<bool, AllocError> {
+        self.has_key(heap, first, &self.key(heap, second)?)
+    }
+
+    // Whether a store that has kept the key of the first sets finds that of the second. None where it does not keep it.
+    pub(crate) fn finds(
+        &self,
+        heap: Global,
+        first: &[ValueSet],
+        second: &[ValueSet],
+    ) -> Result<Option<bool>, AllocError> {
+        let mut words = [0u64; SHELF_WORDS];
+        let mut shelf = Shelf::new(&mut words);
+        Ok(match shelf.keep(&self.key(heap, first)?) {
+            Stored::Kept => Some(shelf.find(&self.key(heap, second)?)),
+            Stored::Lost => None,
+        })
     }
 }
 

@@ -1,6 +1,6 @@
 // Linear rows.
 use crate::example::Example;
-use crate::problem::{Problem, finds, set};
+use crate::problem::{Problem, set};
 use kinds::linear::Linear;
 use rows::trace::Trace;
 use std::alloc::Global;
@@ -24,13 +24,11 @@ pub(crate) fn smaller_sum_dominates(heap: Global) -> anyhow::Result<Example> {
     let d = set(&[3, 4, 5]);
     let first = [set(&[3]), set(&[1]), c, d, d];
     let second = [set(&[1]), set(&[3]), c, d, d];
-    let first_key = problem.key(heap, &first)?;
-    let second_key = problem.key(heap, &second)?;
     let came_out = problem.room(0, 20, &first) == Some(15)
         && problem.room(0, 20, &second) == Some(13)
         && problem.trace(0, &first) == Some(Trace::Open(4_000_005))
         && problem.trace(0, &second) == Some(Trace::Open(4_000_007))
-        && finds(&first_key, &second_key) == Some(false);
+        && problem.finds(heap, &first, &second)? == Some(false);
     Ok(Example::new(
         "linear: a sum of 5 leaves 15 and dominates a sum of 7, which leaves 13",
         came_out,
@@ -63,11 +61,9 @@ pub(crate) fn partial_sums_agree(heap: Global) -> anyhow::Result<Example> {
     let open = set(&[0, 1, 2, 3, 4, 5]);
     let first = [set(&[1]), set(&[2]), set(&[3]), open, open];
     let second = [set(&[2]), set(&[3]), set(&[0]), open, open];
-    let first_key = problem.key(heap, &first)?;
-    let second_key = problem.key(heap, &second)?;
     let came_out = problem.room(0, 20, &first) == Some(12)
         && problem.room(0, 20, &second) == Some(12)
-        && finds(&first_key, &second_key) == Some(true);
+        && problem.finds(heap, &first, &second)? == Some(true);
     Ok(Example::new(
         "linear: 1 2 3 and 2 3 0 leave 12, and the store finds the second by the first",
         came_out,

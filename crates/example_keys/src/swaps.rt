@@ -1,6 +1,6 @@
 // Five voices that all differ, with a + 4 <= d + e, which is the row a - d - e <= -4.
 use crate::example::Example;
-use crate::problem::{Problem, finds, set};
+use crate::problem::{Problem, set};
 use kinds::all_different::AllDifferent;
 use kinds::linear::Linear;
 use sets::ValueSet;
@@ -54,7 +54,7 @@ pub(crate) fn swaps_leave_one_key(heap: Global) -> anyhow::Result<Example> {
     let mut came_out = true;
     for (fixed, expected) in &cases {
         let sets = narrowed_with(heap, &problem, fixed)?;
-        came_out &= problem.key(heap, &sets)?.as_slice() == expected.as_slice();
+        came_out &= problem.has_key(heap, &sets, expected)?;
     }
     Ok(Example::new(
         "swaps: 1 2 and 2 1 leave the same key, and so do 3 4 and 4 3",
@@ -75,7 +75,7 @@ pub(crate) fn exchanged_voices_differ(heap: Global) -> anyhow::Result<Example> {
     let left = set(&[4, 5]);
     let came_out = first.as_slice() == [two, b, left, three, left].as_slice()
         && second.as_slice() == [two, b, left, left, three].as_slice()
-        && finds(&problem.key(heap, &first)?, &problem.key(heap, &second)?) == Some(false);
+        && problem.finds(heap, &first, &second)? == Some(false);
     Ok(Example::new(
         "swaps: the same value at another of two alike voices leaves another key",
         came_out,

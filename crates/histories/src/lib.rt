@@ -5,3 +5,4 @@ pub mod call;
 pub mod perform;
 pub mod play;
 pub mod reply;
+pub mod standard;

@@ -22,16 +22,6 @@ impl KindRefusal {
     {
         self as u8
     }
-
-    /// What is wrong, in words.
-    pub fn message(self) -> &'static str
-        ensures { result.now ≡ kind_message self }
-    {
-        match self {
-            KindRefusal::Undeclared => "a voice of the row is not declared",
-            KindRefusal::RuleBroken => "the row breaks a rule of its kind",
-        }
-    }
 }
 
 /// In words; `number` has the number.
@@ -39,8 +29,10 @@ impl fmt::Display for KindRefusal {
     ghost output = { λ refusal. Some (kind_message refusal) };
 
     fn fmt<W: fmt::Write>(&self, f: &mut fmt::Formatter<W>) -> fmt::Result {
-        let message = self.message();
-        f.write_str(message)
+        match self {
+            KindRefusal::Undeclared => f.write_str("a voice of the row is not declared"),
+            KindRefusal::RuleBroken => f.write_str("the row breaks a rule of its kind"),
+        }
     }
 }
 
@@ -75,20 +67,6 @@ impl RowRefusal {
             RowRefusal::ByKind(refusal) => refusal.number(),
         }
     }
-
-    /// What is wrong, in words.
-    pub fn message(self) -> &'static str
-        ensures { result.now ≡ row_message self }
-    {
-        match self {
-            RowRefusal::UnknownLetter => "the row's letter is missing or not known",
-            RowRefusal::BadCount => "the row's count of members is missing or not 1 to 32",
-            RowRefusal::WrongLength =>
-                "the row has not the length that its letter and count ask for",
-            RowRefusal::UnmarkedMember => "a member of the row does not begin with its mark",
-            RowRefusal::ByKind(refusal) => refusal.message(),
-        }
-    }
 }
 
 /// In words; `number` has the number.
@@ -96,8 +74,19 @@ impl fmt::Display for RowRefusal {
     ghost output = { λ refusal. Some (row_message refusal) };
 
     fn fmt<W: fmt::Write>(&self, f: &mut fmt::Formatter<W>) -> fmt::Result {
-        let row_message = self.message();
-        f.write_str(row_message)
+        match self {
+            RowRefusal::UnknownLetter => f.write_str("the row's letter is missing or not known"),
+            RowRefusal::BadCount => f.write_str(
+                "the row's count of members is missing or not 1 to 32",
+            ),
+            RowRefusal::WrongLength => f.write_str(
+                "the row has not the length that its letter and count ask for",
+            ),
+            RowRefusal::UnmarkedMember => f.write_str(
+                "a member of the row does not begin with its mark",
+            ),
+            RowRefusal::ByKind(refusal) => write!(f, "{refusal}"),
+        }
     }
 }
 

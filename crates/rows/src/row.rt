@@ -32,28 +32,17 @@ pub enum RowError {
     OutOfMemory,
 }
 
-impl RowError {
-    ghost use Rattle.rows.specs.Refusals.{row_error_message};
-
-    /// What is wrong, in words.
-    pub fn message(self) -> &'static str
-        ensures { result.now ≡ row_error_message self }
-    {
-        match self {
-            RowError::MemberCount => "a row has 1 to 32 members",
-            RowError::LargeValue => "a value is above 63",
-            RowError::OutOfMemory => "there is no memory for a row",
-        }
-    }
-}
-
 impl fmt::Display for RowError {
     ghost use Rattle.rows.specs.Refusals.{row_error_message};
 
     ghost output = { λ error. Some (row_error_message error) };
 
     fn fmt<W: fmt::Write>(&self, f: &mut fmt::Formatter<W>) -> fmt::Result {
-        f.write_str(self.message())
+        match self {
+            RowError::MemberCount => f.write_str("a row has 1 to 32 members"),
+            RowError::LargeValue => f.write_str("a value is above 63"),
+            RowError::OutOfMemory => f.write_str("there is no memory for a row"),
+        }
     }
 }
 

@@ -5,7 +5,7 @@ ghost use Rattle.rows.specs.Written.{Wrote};
 ghost use Rattle.rows.specs.WrittenRows.{written_member, written_row};
 ghost use Rattle.sheets.specs.Sheets.{voice_record};
 
-use rows::member::{MEMBER_MARK, Member};
+use rows::member::Member;
 use rows::row::Row;
 use rows::writer::Writer;
 use sets::ValueSet;
@@ -38,9 +38,7 @@ impl Record for Member {
     ghost bytes = { written_member };
 
     fn write(&self, writer: &mut Writer) {
-        let [voice, _] = self.voice.to_le_bytes();
-        let [low, high] = self.argument.to_le_bytes();
-        writer.put(&[MEMBER_MARK, voice, low, high]);
+        writer.put(&self.to_bytes());
     }
 }
 

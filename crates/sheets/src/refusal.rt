@@ -68,19 +68,6 @@ impl RecordRefusal {
         }
     }
 
-    /// What is wrong, in words.
-    pub fn message(self) -> &'static str
-        ensures { result.now ≡ cause_message self }
-    {
-        match self {
-            RecordRefusal::NoRecord => "the bytes end where a record should begin",
-            RecordRefusal::LateVoice => "a voice follows a row",
-            RecordRefusal::Trailing => "bytes follow the sheet's end",
-            RecordRefusal::CutVoice => "the bytes end inside a voice",
-            RecordRefusal::ByTable(refusal) => refusal.message(),
-        }
-    }
-
     /// The layer that refuses.
     pub fn layer(self) -> Layer
         ensures { result ≡ cause_layer self }
@@ -108,8 +95,13 @@ impl fmt::Display for RecordRefusal {
     ghost output = { λ cause. Some (cause_message cause) };
 
     fn fmt<W: fmt::Write>(&self, f: &mut fmt::Formatter<W>) -> fmt::Result {
-        let message = self.message();
-        f.write_str(message)
+        match self {
+            RecordRefusal::NoRecord => f.write_str("the bytes end where a record should begin"),
+            RecordRefusal::LateVoice => f.write_str("a voice follows a row"),
+            RecordRefusal::Trailing => f.write_str("bytes follow the sheet's end"),
+            RecordRefusal::CutVoice => f.write_str("the bytes end inside a voice"),
+            RecordRefusal::ByTable(refusal) => write!(f, "{refusal}"),
+        }
     }
 }
 

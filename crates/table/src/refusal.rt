@@ -44,22 +44,6 @@ impl Refusal {
             Refusal::ShortBuffer => 16,
         }
     }
-
-    /// What is wrong, in words.
-    pub fn message(self) -> &'static str
-        ensures { result.now ≡ refusal_message self }
-    {
-        match self {
-            Refusal::Row(refusal) => refusal.message(),
-            Refusal::EmptySet => "the voice's set has no value",
-            Refusal::VoicesFull => "the table has as many voices as it can have",
-            Refusal::RowsFull => "the table has as many rows, or bytes of rows, as it can have",
-            Refusal::BudgetRange => "the budget is not 1 to 1,000,000",
-            Refusal::NodesSpent => "with this budget the search could open more nodes than it may",
-            Refusal::NothingFound => "nothing was found",
-            Refusal::ShortBuffer => "the buffer is too short",
-        }
-    }
 }
 
 /// In words; `number` has the number.
@@ -67,8 +51,20 @@ impl fmt::Display for Refusal {
     ghost output = { λ refusal. Some (refusal_message refusal) };
 
     fn fmt<W: fmt::Write>(&self, f: &mut fmt::Formatter<W>) -> fmt::Result {
-        let message = self.message();
-        f.write_str(message)
+        match self {
+            Refusal::Row(refusal) => write!(f, "{refusal}"),
+            Refusal::EmptySet => f.write_str("the voice's set has no value"),
+            Refusal::VoicesFull => f.write_str("the table has as many voices as it can have"),
+            Refusal::RowsFull => f.write_str(
+                "the table has as many rows, or bytes of rows, as it can have",
+            ),
+            Refusal::BudgetRange => f.write_str("the budget is not 1 to 1,000,000"),
+            Refusal::NodesSpent => f.write_str(
+                "with this budget the search could open more nodes than it may",
+            ),
+            Refusal::NothingFound => f.write_str("nothing was found"),
+            Refusal::ShortBuffer => f.write_str("the buffer is too short"),
+        }
     }
 }
 

@@ -40,21 +40,6 @@ impl TicketRefusal {
             TicketRefusal::Post(refusal) => refusal.number(),
         }
     }
-
-    /// What is wrong, in words.
-    pub fn message(self) -> &'static str
-        ensures { result.now ≡ ticket_refusal_message self }
-    {
-        match self {
-            TicketRefusal::UnknownLetter => "the bank has no kind with this letter",
-            TicketRefusal::BadCount => "the count of members is missing or not 1 to 32",
-            TicketRefusal::WrongLength => "the body has not the length that its letter asks for",
-            TicketRefusal::ShortMemory => "the memory is shorter than the row",
-            TicketRefusal::AllGiven => "the row has all its members",
-            TicketRefusal::MembersMissing => "the row lacks members",
-            TicketRefusal::Post(refusal) => refusal.message(),
-        }
-    }
 }
 
 /// In words; `number` has the number.
@@ -62,8 +47,19 @@ impl fmt::Display for TicketRefusal {
     ghost output = { λ refusal. Some (ticket_refusal_message refusal) };
 
     fn fmt<W: fmt::Write>(&self, f: &mut fmt::Formatter<W>) -> fmt::Result {
-        let message = self.message();
-        f.write_str(message)
+        match self {
+            TicketRefusal::UnknownLetter => f.write_str("the bank has no kind with this letter"),
+            TicketRefusal::BadCount => f.write_str(
+                "the count of members is missing or not 1 to 32",
+            ),
+            TicketRefusal::WrongLength => f.write_str(
+                "the body has not the length that its letter asks for",
+            ),
+            TicketRefusal::ShortMemory => f.write_str("the memory is shorter than the row"),
+            TicketRefusal::AllGiven => f.write_str("the row has all its members"),
+            TicketRefusal::MembersMissing => f.write_str("the row lacks members"),
+            TicketRefusal::Post(refusal) => write!(f, "{refusal}"),
+        }
     }
 }
 

@@ -5,7 +5,7 @@ ghost use Rattle.std.specs.Prelude.{◌≡◌, ◌<◌, length};
 use crate::refusal::TicketRefusal;
 use rows::bank::Bank;
 use rows::limits::MOST_MEMBERS;
-use rows::member::MEMBER_MARK;
+use rows::member::Member;
 use rows::writer::Writer;
 use stores::store::Store;
 use table::Table;
@@ -59,9 +59,9 @@ impl Ticket {
                 refusal,
             });
         }
-        let [low, high] = argument.to_le_bytes();
+        let voice = u16::from(voice);
         let mut writer = Writer::from_place(memory, self.next_place());
-        writer.put(&[MEMBER_MARK, voice, low, high]);
+        writer.put(&Member { voice, argument }.to_bytes());
         Ok(self.advanced())
     }
 

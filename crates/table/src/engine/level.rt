@@ -5,7 +5,7 @@ ghost use Rattle.sets.specs.Sets.{least, only};
 use sets::{ValueSet, least_value, single};
 
 // A level without its sets: the voice that its children fix, and the values that are left to try.
-#[derive(Clone, Copy, Debug, PartialEq, Eq)]
+#[derive(Clone, Copy)]
 pub(crate) struct LevelRecord {
     pub voice: usize,
     pub left: ValueSet,
@@ -27,7 +27,7 @@ impl LevelRecord {
 
 // What a search has come to that has no level: its root is not opened yet, it has found values, it has searched
 // everything. Of a search with levels it says nothing: a variant that held them would move them at each node.
-#[derive(Clone, Copy, Debug, PartialEq, Eq)]
+#[derive(Clone, Copy)]
 pub(crate) enum End {
     Fresh,
     Found,

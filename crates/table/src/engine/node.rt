@@ -16,7 +16,7 @@ use sets::{ValueSet, is_fixed};
 use stores::store::Store;
 
 // What a node is.
-#[derive(Clone, Copy, Debug, PartialEq, Eq)]
+#[derive(Clone, Copy)]
 pub(crate) enum NodeClass {
     // a set is empty
     Dead,

@@ -5,7 +5,7 @@ use Rattle.stores.specs.ShelfLaws.{shelf}
 use Rattle.stores.specs.Shown.{shelf_state_of}
 use Rattle.histories.specs.CallViews.{calls_of, answers_of, progresses_of}
 use Rattle.histories.specs.Replies.{Played}
-use Rattle.example_histories.proofs.play_beside_bare.Goals as goal
+use Rattle.histories.proofs.standard.play_beside_bare.Goals as goal
 
 -- a new shelf uses none of its words
 pub returns-clause-over_shelf : goal.returns-clause-over_shelf
