@@ -43,7 +43,8 @@ with_short_rows n = begun (6 ∷ []) (replicate n (decode differing (first_diffe
 -- 32 voices; 62 rows of 130 bytes, and so many that say that the first k voices differ
 abbrev pub long_rows : ℕ → ℕ → List RowData
 long_rows n k =
-    replicate 62 (decode differing (first_differ 32)) ++ replicate n (decode differing (first_differ k))
+    replicate 62 (decode differing (first_differ 32)) ++ replicate n
+    (decode differing (first_differ k))
 
 abbrev pub with_long_rows : ℕ → ℕ → TableData
 with_long_rows n k = begun (replicate 32 6) (long_rows n k)
@@ -116,7 +117,8 @@ refusals =
     ∷ judgement_of empty (post (0x41 ∷ 1 ∷ 0x4C ∷ 0 ∷ 0 ∷ [])) (declined 6)
     -- the mark of each member: of the first, of the second
     ∷ judgement_of (with_voices 1) (post (0x41 ∷ 1 ∷ 0x4C ∷ 0 ∷ 0 ∷ 0 ∷ [])) (declined 7)
-    ∷ judgement_of (with_voices 2) (post (0x41 ∷ 2 ∷ 0x4D ∷ 0 ∷ 0 ∷ 0 ∷ 0x4E ∷ 1 ∷ 0 ∷ 0 ∷ [])) (declined 7)
+    ∷ judgement_of (with_voices 2) (post (0x41 ∷ 2 ∷ 0x4D ∷ 0 ∷ 0 ∷ 0 ∷ 0x4E ∷ 1 ∷ 0 ∷ 0 ∷ []))
+    (declined 7)
     -- it goes before a voice that is not declared
     ∷ judgement_of empty (post (0x41 ∷ 1 ∷ 0x4C ∷ 0 ∷ 1 ∷ 0 ∷ [])) (declined 7)
     -- a voice: the last that is declared, and one past it
@@ -182,7 +184,8 @@ limit_histories =
     ∷ calls_over large ((declare 6, refused 11) ∷ declares 80) (with_voices 80) 0 []
     -- 120 rows
     ∷ calls_over large (posts 120 1 ++ declares 1) (with_short_rows 120) 0 []
-    ∷ calls_over large ((post (first_differ 1), refused 12) ∷ posts 120 1 ++ declares 1) (with_short_rows 120) 0 []
+    ∷ calls_over large ((post (first_differ 1), refused 12) ∷ posts 120 1 ++ declares 1)
+    (with_short_rows 120) 0 []
     -- 8,192 bytes
     ∷ calls_over large full_history full_table 0 []
     ∷ calls_over large ((post (first_differ 1), refused 12) ∷ full_history) full_table 0 []

@@ -22,9 +22,11 @@ pub record SearchCase : Type 0 where
   pub keys : List (List ℕ)
 
 -- the case of calls over this store, of rows of the bank A
-abbrev pub calls_over : CaseStore → List (Call × Answer) → TableData → ℕ → List (List ℕ) → SearchCase
+abbrev pub calls_over : CaseStore → List (Call × Answer) → TableData → ℕ → List (List ℕ)
+    → SearchCase
 calls_over store calls table lost keys =
-    record { store = store; bank = differing; calls = calls; table = table; lost = lost; keys = keys }
+    record
+    { store = store; bank = differing; calls = calls; table = table; lost = lost; keys = keys }
 
 -- over a store with this behaviour that Make got in the state g, the calls, so answered, lead to
 -- this table with so many keys lost, and the store then holds these keys

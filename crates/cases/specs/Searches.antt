@@ -31,7 +31,8 @@ three_root = record { sets = 6 ∷ 6 ∷ 6 ∷ []; voice = 0; left = 4 }
 abbrev pub five_posted : List (Call × Answer)
 five_posted =
     (post (first_differ 5), done)
-    ∷ (declare 24, done) ∷ (declare 24, done) ∷ (declare 24, done) ∷ (declare 6, done) ∷ (declare 6, done) ∷ []
+    ∷ (declare 24, done) ∷ (declare 24, done) ∷ (declare 24, done) ∷ (declare 6, done) ∷
+    (declare 6, done) ∷ []
 
 abbrev pub five_at : Place → ℕ → ℕ → TableData
 five_at place opened exhausted =
@@ -60,8 +61,8 @@ two_read =
 
 -- ---- keys
 
--- Of three voices. A key has a word for each voice, 0 where it is fixed; then the row's mark, 1 as it
--- is open, and the values that its fixed voices have.
+-- Of three voices. A key has a word for each voice, 0 where it is fixed; then the row's mark, 1 as
+-- it is open, and the values that its fixed voices have.
 abbrev pub three_key : List ℕ
 three_key = 6 ∷ 6 ∷ 6 ∷ 1 ∷ 0 ∷ []
 
@@ -83,26 +84,34 @@ searches =
     -- more ends it with the same counts
     ∷ calls_over large ((solve 3, none) ∷ three_posted) (three_at Place.none 3 1) 0 (three_key ∷ [])
     ∷ calls_over large ((solve 2, stopped) ∷ three_posted) (three_at (going three_root []) 2 0) 0 []
-    ∷ calls_over large ((solve 1, none) ∷ (solve 2, stopped) ∷ three_posted) (three_at Place.none 3 1) 0
+    ∷ calls_over large ((solve 1, none) ∷ (solve 2, stopped) ∷ three_posted)
+    (three_at Place.none 3 1) 0
     (three_key ∷ [])
     -- both children of the root have one key: a store that holds it saves the search of the second
-    ∷ calls_over large ((solve 9, none) ∷ five_posted) (five_at Place.none 5 2) 0 (child_key ∷ root_key ∷ [])
+    ∷ calls_over large ((solve 9, none) ∷ five_posted) (five_at Place.none 5 2) 0
+    (child_key ∷ root_key ∷ [])
     ∷ calls_over bare ((solve 9, none) ∷ five_posted) (five_at Place.none 7 3) 3 []
     -- room for one key is enough, and a word less is not
-    ∷ calls_over (shelf_of 8) ((solve 9, none) ∷ five_posted) (five_at Place.none 5 2) 1 (child_key ∷ [])
+    ∷ calls_over (shelf_of 8) ((solve 9, none) ∷ five_posted) (five_at Place.none 5 2) 1
+    (child_key ∷ [])
     ∷ calls_over (shelf_of 7) ((solve 9, none) ∷ five_posted) (five_at Place.none 7 3) 3 []
     -- the empty table has one placing, of no values, and it can be read
     ∷ calls_over large ((solve 9, found []) ∷ []) (table_with [] [] (Place.found []) 1 0) 0 []
     ∷ calls_over bare ((solve 9, found []) ∷ []) (table_with [] [] (Place.found []) 1 0) 0 []
-    ∷ calls_over large ((read [], wrote 0 []) ∷ (solve 1, found []) ∷ []) (table_with [] [] (Place.found []) 1 0) 0 []
+    ∷ calls_over large ((read [], wrote 0 []) ∷ (solve 1, found []) ∷ [])
+    (table_with [] [] (Place.found []) 1 0) 0 []
     -- the least placing of two voices: over a large shelf, and over the bare store
-    ∷ calls_over large ((solve 9, found (1 ∷ 3 ∷ [])) ∷ two_posted) (two_at (Place.found (1 ∷ 3 ∷ [])) 2 0) 0 []
-    ∷ calls_over bare ((solve 9, found (1 ∷ 3 ∷ [])) ∷ two_posted) (two_at (Place.found (1 ∷ 3 ∷ [])) 2 0) 0 []
+    ∷ calls_over large ((solve 9, found (1 ∷ 3 ∷ [])) ∷ two_posted)
+    (two_at (Place.found (1 ∷ 3 ∷ [])) 2 0) 0 []
+    ∷ calls_over bare ((solve 9, found (1 ∷ 3 ∷ [])) ∷ two_posted)
+    (two_at (Place.found (1 ∷ 3 ∷ [])) 2 0) 0 []
     -- it is found again and read with no further node, and a declined call changes nothing
     ∷ calls_over large two_read (two_at (Place.found (1 ∷ 3 ∷ [])) 2 0) 0 []
-    ∷ calls_over large ((declare 0, refused 10) ∷ two_read) (two_at (Place.found (1 ∷ 3 ∷ [])) 2 0) 0 []
+    ∷ calls_over large ((declare 0, refused 10) ∷ two_read)
+    (two_at (Place.found (1 ∷ 3 ∷ [])) 2 0) 0 []
     -- another voice begins the search again, and so does a wipe
-    ∷ calls_over large ((declare 6, done) ∷ two_read) (table_with (10 ∷ 10 ∷ 6 ∷ []) (differs_2 ∷ []) fresh 0 0) 0 []
+    ∷ calls_over large ((declare 6, done) ∷ two_read)
+    (table_with (10 ∷ 10 ∷ 6 ∷ []) (differs_2 ∷ []) fresh 0 0) 0 []
     ∷ calls_over large ((wipe, done) ∷ two_read) (table_with [] [] fresh 0 0) 0 []
     -- another row begins the search again and empties the store
     ∷ calls_over large ((post (first_differ 2), done) ∷ (solve 9, none) ∷ five_posted)

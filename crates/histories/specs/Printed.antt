@@ -24,7 +24,8 @@ answer_text (Wrote count bytes) =
 -- as `stopped 20 7`
 abbrev pub progress_text : Progress → List ℕ
 progress_text s =
-    outcome_name s.outcome ++ (codes " " ++ (decimal s.opened ++ (codes " " ++ decimal s.exhausted)))
+    outcome_name s.outcome ++
+    (codes " " ++ (decimal s.opened ++ (codes " " ++ decimal s.exhausted)))
 
 -- as `refused 13 | stopped 20 7`
 abbrev pub reply_text : Reply → List ℕ

@@ -59,7 +59,8 @@ pub record Played (b : Behaviour) (m : Meaning) (given : b.State) (calls : List 
   pub each_reached : (n : ℕ) → Reached b m given (first_paired n calls answers) (take n shown)
   -- each answer says what it must of the voices and rows that the calls before it gave
   pub means : (n : ℕ) → n < length calls
-      → AnswerMeans m (first_paired n calls answers) (slice_index_or calls n wipe) (slice_index_or answers n done)
+      → AnswerMeans m (first_paired n calls answers) (slice_index_or calls n wipe)
+      (slice_index_or answers n done)
 
 -- Of two histories: any result of a Solve in the one and any in the other are equal exactly when
 -- the tables, as they were then, have the same least lawful placing or neither has any.
@@ -70,7 +71,8 @@ Agreed m calls answers m' calls' answers' = (n n' b b' : ℕ)
     → finished (slice_index_or answers' n' done) ≡ true
     → (slice_index_or answers n done ≡ slice_index_or answers' n' done)
     ↔ SameLeast
-    m (declared_voices (first_paired n calls answers)) (posted_rows m (first_paired n calls answers))
+    m (declared_voices (first_paired n calls answers))
+    (posted_rows m (first_paired n calls answers))
     m' (declared_voices (first_paired n' calls' answers'))
     (posted_rows m' (first_paired n' calls' answers'))
 

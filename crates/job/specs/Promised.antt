@@ -7,15 +7,16 @@ use Rattle.sheets.specs.Reading.{SheetReading}
 use Rattle.sheets.specs.Reading.SheetReading.{accepted, refused}
 use Rattle.job.specs.Texts.{refused_line, outcome_text}
 
--- The report of these voices and rows: `found` with the least lawful placing; `none`, where there is
--- no lawful placing; or `stopped`, which says nothing of the placings. It has 1,000,000 in its line
--- `opened`; that so many nodes were opened, and the search is not over, is said by `Planned`.
+-- The report of these voices and rows: `found` with the least lawful placing; `none`, where there
+-- is no lawful placing; or `stopped`, which says nothing of the placings. It has 1,000,000 in its
+-- line `opened`; that so many nodes were opened, and the search is not over, is said by `Planned`.
 pub data Reports (m : Meaning) (voices : List ℕ) (rows : List RowData) : List ℕ → Type 0 where
   found : (p : List ℕ) (opened exhausted : ℕ) → Least m voices rows p
       → Reports m voices rows (outcome_text (codes "found") opened exhausted p)
   none : (opened exhausted : ℕ) → Lawless m voices rows
       → Reports m voices rows (outcome_text (codes "none") opened exhausted [])
-  stopped : (exhausted : ℕ) → Reports m voices rows (outcome_text (codes "stopped") MOST_BUDGET exhausted [])
+  stopped : (exhausted : ℕ)
+      → Reports m voices rows (outcome_text (codes "stopped") MOST_BUDGET exhausted [])
 
 -- an accepted sheet is reported so; a declined one by its first fault
 abbrev pub Promised : Meaning → SheetReading → List ℕ → Type 0

@@ -19,7 +19,9 @@ line_end = 0x0A ∷ []
 -- as `refused 9 at 18 in row`
 abbrev pub refused_line : ℕ → ℕ → Layer → List ℕ
 refused_line number place layer =
-    codes "refused " ++ (decimal number ++ (codes " at " ++ (decimal place ++ (codes " in " ++ (layer_name layer ++ line_end)))))
+    codes "refused " ++ (decimal number
+    ++ (codes " at " ++ (decimal place
+    ++ (codes " in " ++ (layer_name layer ++ line_end)))))
 
 -- ---- a sheet that was searched
 
@@ -43,7 +45,8 @@ value_lines i (v ∷ values) = value_line i v ++ value_lines (suc i) values
 -- what the search has come to, how many nodes it opened and exhausted, and the found values
 abbrev pub outcome_text : List ℕ → ℕ → ℕ → List ℕ → List ℕ
 outcome_text name opened exhausted values =
-    outcome_line name ++ (count_line (codes "opened") opened ++ (count_line (codes "exhausted") exhausted ++ value_lines 0 values))
+    outcome_line name ++ (count_line (codes "opened") opened
+    ++ (count_line (codes "exhausted") exhausted ++ value_lines 0 values))
 
 -- ---- a table
 
@@ -59,4 +62,5 @@ report_text (declined number place layer) t = refused_line number place layer
 -- of a sheet that was declined for this fault, or for which the table's search has come to this
 abbrev pub sheet_text : Result Outcome SheetRefusal → TableData → List ℕ
 sheet_text (Ok outcome) t = searched_text outcome t
-sheet_text (Err fault) t = refused_line (cause_number fault.cause) fault.place (cause_layer fault.cause)
+sheet_text (Err fault) t =
+    refused_line (cause_number fault.cause) fault.place (cause_layer fault.cause)

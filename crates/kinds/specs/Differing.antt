@@ -7,18 +7,22 @@ use Rattle.rows.specs.Rows.{RowData, KindMeaning}
 use Rattle.rows.specs.Shared.{cuts, at, distinct, shaped, verdict, declared}
 use Rattle.rows.specs.declared.trace.Trace.TheVariants.{Settled, Open}
 
--- the value w may stay with the member n when m, whose set is s, has its moment: m is not fixed, or n is m, or w is not m's value
+-- the value w may stay with the member n when m, whose set is s, has its moment: m is not fixed, or
+-- n is m, or w is not m's value
 abbrev pub may_stay : Member → ℕ → Member → ℕ → Bool
 may_stay m s n w = not (fixed s) || (n.voice == m.voice || not (w == least s))
 
--- each member in order, if its set has one value by then, takes that value out of every other member's set
+-- each member in order, if its set has one value by then, takes that value out of every other
+-- member's set
 abbrev pub values_taken : List Member → List Member → List ℕ → List ℕ
 values_taken ms [] s = s
 values_taken ms (m ∷ rest) s = values_taken ms rest (cuts (may_stay m (at s m)) ms s)
 
 -- the arguments are 0 and no voice repeats
 abbrev pub differing_rule : RowData → Bool
-differing_rule r = list_all (λ m. nat_eq (unsigned_abs m.argument) 0) r.members && distinct (map (λ m. m.voice) r.members)
+differing_rule r =
+    list_all (λ m. nat_eq (unsigned_abs m.argument) 0) r.members
+    && distinct (map (λ m. m.voice) r.members)
 
 -- all members are fixed, at values that differ
 abbrev pub all_placed : List Member → List ℕ → Bool

@@ -29,11 +29,14 @@ reached (m ∷ ms) f v = (f zero && unsigned_abs m.argument == v) || reached ms 
 
 -- i leaves the index's set unless there is an entry i and it is in the result's set
 abbrev pub narrow_index : RowData → List ℕ → List ℕ
-narrow_index r s = cut (index r) (λ i. nat_lt i (length r.members) && has (slice_index s (result_voice r)) (entry r.members i)) s
+narrow_index r s =
+    cut (index r)
+    (λ i. nat_lt i (length r.members) && has (slice_index s (result_voice r)) (entry r.members i)) s
 
 -- v leaves the result's set unless it is entry i for some i in the index's set
 abbrev pub narrow_result : RowData → List ℕ → List ℕ
-narrow_result r s = cut (result_voice r) (λ v. reached r.members (has (slice_index s (index r))) v) s
+narrow_result r s =
+    cut (result_voice r) (λ v. reached r.members (has (slice_index s (index r))) v) s
 
 -- there is an entry i and it is v
 abbrev pub meets : RowData → ℕ → ℕ → Bool
@@ -65,8 +68,12 @@ abbrev pub element : KindMeaning
 element = record {
   letter = 0x45;
   body_length = 3;
-  accepts = λ r n. verdict (shaped 0x45 3 r) (nat_lt (index r) n && nat_lt (result_voice r) n) (element_rule r);
+  accepts =
+      λ r n. verdict (shaped 0x45 3 r) (nat_lt (index r) n && nat_lt (result_voice r) n)
+      (element_rule r);
   holds = λ r p. meets r (slice_index p (index r)) (slice_index p (result_voice r));
   turn = λ r s. narrow_result r (narrow_index r s);
-  trace = λ r s. element_trace r (slice_index s (index r)) (slice_index s (result_voice r)) (fixed (slice_index s (index r))) (fixed (slice_index s (result_voice r)));
+  trace =
+      λ r s. element_trace r (slice_index s (index r)) (slice_index s (result_voice r))
+      (fixed (slice_index s (index r))) (fixed (slice_index s (result_voice r)));
 }

@@ -8,7 +8,8 @@ use Rattle.kinds.specs.Entries.{element}
 
 -- all different (A), linear (L), clause (C) and element (E), side by side
 abbrev pub four_kinds : Meaning
-four_kinds = beside (alone all_different) (beside (alone linear) (beside (alone clause) (alone element)))
+four_kinds =
+    beside (alone all_different) (beside (alone linear) (beside (alone clause) (alone element)))
 
 -- rows with the kind's letter go to it: of them the bank says what the kind says
 pub record GoesTo (k : KindMeaning) : Type 0 where
@@ -25,4 +26,5 @@ pub record ByLetter : Type 0 where
   pub sum_rows : GoesTo linear
   pub clause_rows : GoesTo clause
   pub element_rows : GoesTo element
-  pub letters : (l : ℕ) → four_kinds.known l ≡ (l == 0x41 || (l == 0x4C || (l == 0x43 || l == 0x45)))
+  pub letters : (l : ℕ)
+      → four_kinds.known l ≡ (l == 0x41 || (l == 0x4C || (l == 0x43 || l == 0x45)))

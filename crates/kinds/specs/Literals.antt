@@ -10,9 +10,12 @@ use Rattle.rows.specs.Rows.{RowData, KindMeaning}
 use Rattle.rows.specs.Shared.{cuts, at, shaped, verdict, declared}
 use Rattle.rows.specs.declared.trace.Trace.TheVariants.{Settled, Open}
 
--- the literal holds for the value: below 64 the value is the argument; from 64 on it is not the argument less 64
+-- the literal holds for the value: below 64 the value is the argument; from 64 on it is not the
+-- argument less 64
 abbrev pub literal_holds : Member → ℕ → Bool
-literal_holds m v = cond (nat_lt (unsigned_abs m.argument) 64) (v == unsigned_abs m.argument) (not (v == unsigned_abs m.argument - 64))
+literal_holds m v =
+    cond (nat_lt (unsigned_abs m.argument) 64) (v == unsigned_abs m.argument)
+    (not (v == unsigned_abs m.argument - 64))
 
 -- it holds for the placing
 abbrev pub holds_at : List ℕ → Member → Bool
@@ -29,7 +32,8 @@ certain s m = sift (λ v. not (literal_holds m v)) (at s m) == 0
 abbrev pub may_hold : List ℕ → Member → Bool
 may_hold s m = not (refuted s m)
 
--- by the literals that are not refuted: none, and the first member's set becomes empty; one, and its set loses the values that make it false
+-- by the literals that are not refuted: none, and the first member's set becomes empty; one, and
+-- its set loses the values that make it false
 abbrev pub units : List Member → List Member → List ℕ → List ℕ
 units [] ms s = cuts (λ _ _. false) (take 1 ms) s
 units (m ∷ []) ms s = cuts literal_holds (m ∷ []) s

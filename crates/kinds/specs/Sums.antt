@@ -42,13 +42,16 @@ within r s m v = int_le (term m v +ℤ (total (low s) r.members -ℤ low s m)) (
 abbrev pub always_within : RowData → List ℕ → Bool
 always_within r s = int_le (total (high s) r.members) (bound r)
 
--- what the fixed members add up to, from 4,000,000 on: so large that no accepted row has less than 0
+-- what the fixed members add up to, from 4,000,000 on: so large that no accepted row has less than
+-- 0
 abbrev pub linear_content : RowData → List ℕ → ℕ
 linear_content r s = unsigned_abs (total (placed s) r.members +ℤ pos 4000000)
 
 -- the bound from -3,000,000 to 3,000,000, the coefficients from -1,000 to 1,000
 abbrev pub linear_rule : RowData → Bool
-linear_rule r = nat_le (unsigned_abs (bound r)) 3000000 && list_all (λ m. leb (unsigned_abs m.argument) 1000) r.members
+linear_rule r =
+    nat_le (unsigned_abs (bound r)) 3000000
+    && list_all (λ m. leb (unsigned_abs m.argument) 1000) r.members
 
 -- z lies from -n to n: so the code's sums fit
 pub record Near (n : ℕ) (z : ℤ) : Type 0 where

@@ -28,4 +28,5 @@ latest_answer s k = cond (is_held k s.held) Kept Lost
 
 abbrev pub latest_after : LatestState → List ℕ → LatestState
 latest_after s k =
-    cond (is_held k s.held) s (cond (fits_space (length k) s.room) (record { held = k ∷ []; room = s.room }) s)
+    cond (is_held k s.held) s
+    (cond (fits_space (length k) s.room) (record { held = k ∷ []; room = s.room }) s)

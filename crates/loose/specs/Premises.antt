@@ -8,7 +8,8 @@ use Rattle.loose.specs.Loose.{loose}
 
 pub record PremisesNeeded : Type 0 where
   -- it accepts data that are no row
-  pub accepts_no_row : ((r : RowData) (n : ℕ) → loose.accepts r n ≡ Ok tt → Shaped (alone loose) r) → ⊥
+  pub accepts_no_row : ((r : RowData) (n : ℕ) → loose.accepts r n ≡ Ok tt → Shaped (alone loose) r)
+      → ⊥
   -- for numbers that are no placing, `holds` depends on further voices
   pub holds_more : ((r : RowData) (p q : List ℕ) → Accepted (alone loose) r (length p)
       → loose.holds r (p ++ q) ≡ loose.holds r p) → ⊥

@@ -1,5 +1,5 @@
--- A row as bytes: its letter; its body, whose first byte is the number of members; and for each member hex 4D, its voice, and its argument, a signed
--- number of 16 bits, low byte first.
+-- A row as bytes: its letter; its body, whose first byte is the number of members; and for each
+-- member hex 4D, its voice, and its argument, a signed number of 16 bits, low byte first.
 use Rattle.std.specs.Prelude.{◌≡◌, ℕ, suc, ◌+◌, ◌*◌, ◌/◌, ◌%◌, ◌<◌, Bool, true, ◌&&◌, List, [], ◌∷◌, ◌++◌, length, take, drop, FitsSigned, ◌==◌, nat_lt, slice_index}
 use Rattle.std.specs.Int.{w16}
 use Rattle.std.proofs.Common.{to_z, of_z}
@@ -60,19 +60,24 @@ members_in [] = []
 members_in (a ∷ []) = []
 members_in (a ∷ v ∷ []) = []
 members_in (a ∷ v ∷ low ∷ []) = []
-members_in (a ∷ v ∷ low ∷ high ∷ bs) = record { voice = v; argument = to_z w16 (low + 0x100 * high) } ∷ members_in bs
+members_in (a ∷ v ∷ low ∷ high ∷ bs) =
+    record { voice = v; argument = to_z w16 (low + 0x100 * high) } ∷ members_in bs
 
 -- the row that the bytes stand for
 abbrev pub decode : Meaning → List ℕ → RowData
-decode m bs =
-    record { letter = letter_byte bs; body = take (m.body_length (letter_byte bs)) (drop 1 bs); members = members_in (drop (head_length m bs) bs) }
+decode m bs = record {
+  letter = letter_byte bs;
+  body = take (m.body_length (letter_byte bs)) (drop 1 bs);
+  members = members_in (drop (head_length m bs) bs);
+}
 
 -- ---- writing
 
 -- the bytes of these members
 abbrev pub member_bytes : List Member → List ℕ
 member_bytes [] = []
-member_bytes (x ∷ xs) = 0x4D ∷ x.voice ∷ of_z w16 x.argument % 0x100 ∷ of_z w16 x.argument / 0x100 ∷ member_bytes xs
+member_bytes (x ∷ xs) =
+    0x4D ∷ x.voice ∷ of_z w16 x.argument % 0x100 ∷ of_z w16 x.argument / 0x100 ∷ member_bytes xs
 
 -- the bytes of a row
 abbrev pub encode : RowData → List ℕ
@@ -100,5 +105,7 @@ pub record LaidOut (m : Meaning) (r : RowData) : Type 0 where
 -- Such rows and the bytes of the layout stand for each other.
 abbrev pub BytesBothWays : Type 0
 BytesBothWays = (m : Meaning)
-    → ((r : RowData) → LaidOut m r → Bytes (encode r) × Layout m (encode r) × (decode m (encode r) ≡ r))
-    × ((bs : List ℕ) → Bytes bs → Layout m bs → LaidOut m (decode m bs) × (encode (decode m bs) ≡ bs))
+    → ((r : RowData) → LaidOut m r
+    → Bytes (encode r) × Layout m (encode r) × (decode m (encode r) ≡ r))
+    × ((bs : List ℕ) → Bytes bs → Layout m bs
+    → LaidOut m (decode m bs) × (encode (decode m bs) ≡ bs))

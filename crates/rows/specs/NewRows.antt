@@ -11,7 +11,8 @@ use Rattle.rows.specs.Views.{row_of}
 abbrev pub if_counted : RowData → Result RowData RowError
 if_counted r = checked (allowed_count (length r.members)) MemberCount (Ok r)
 
--- A constructor's result is this row, or this error; where there is such a row, memory may be missing.
+-- A constructor's result is this row, or this error; where there is such a row, memory may be
+-- missing.
 abbrev pub Constructs : Result RowData RowError → Result Row RowError → Type 0
 Constructs wanted (Ok row) = wanted ≡ Ok (row_of row)
 Constructs wanted (Err MemberCount) = wanted ≡ Err MemberCount

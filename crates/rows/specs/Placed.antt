@@ -12,7 +12,8 @@ abbrev pub AllAccepted : Meaning → List RowData → ℕ → Type 0
 AllAccepted m [] n = Unit {0}
 AllAccepted m (r ∷ rows) n = Accepted m r n × AllAccepted m rows n
 
--- what the laws ask of rows and sets: the bank accepts each row with as many voices, and no set is empty
+-- what the laws ask of rows and sets: the bank accepts each row with as many voices, and no set is
+-- empty
 pub record Ready (m : Meaning) (rows : List RowData) (s : List ℕ) : Type 0 where
   pub accepted : AllAccepted m rows (length s)
   pub proper : Proper s
@@ -46,4 +47,5 @@ Lawless m voices rows = (q : List ℕ) → Lawful m voices rows q → ⊥
 -- two lists of voices and rows have the same least lawful placing, or neither has any lawful one
 abbrev pub SameLeast : Meaning → List ℕ → List RowData → Meaning → List ℕ → List RowData → Type 0
 SameLeast m voices rows m' voices' rows' =
-    ((p : List ℕ) × Least m voices rows p × Least m' voices' rows' p) ⊎ (Lawless m voices rows × Lawless m' voices' rows')
+    ((p : List ℕ) × Least m voices rows p × Least m' voices' rows' p)
+    ⊎ (Lawless m voices rows × Lawless m' voices' rows')

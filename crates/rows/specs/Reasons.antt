@@ -1,4 +1,5 @@
--- Why a voice or a row is declined beside the voices and rows that are there: by the smallest number that fits.
+-- Why a voice or a row is declined beside the voices and rows that are there: by the smallest
+-- number that fits.
 use Rattle.std.specs.Prelude.{ℕ, ◌+◌, Bool, true, false, not, ◌||◌, List, [], ◌∷◌, length, drop, Ok, Err, ◌==◌, nat_le, nat_lt}
 use Rattle.rows.specs.declared.limits.TheConstants.{MOST_VOICES, MOST_ROWS, MOST_BYTES}
 use Rattle.rows.specs.Refusals.{kind_number}

@@ -26,8 +26,8 @@ allowed_count n = nat_le 1 n && nat_le n MOST_MEMBERS
 abbrev pub Verdict : Type 0
 Verdict = Result Unit KindRefusal
 
--- What a kind of rows means: its letter, its body length, the rows that it accepts with so many voices, the placings that a row holds for, the sets
--- after a turn (propagator), the trace.
+-- What a kind of rows means: its letter, its body length, the rows that it accepts with so many
+-- voices, the placings that a row holds for, the sets after a turn (propagator), the trace.
 pub record KindMeaning : Type 0 where
   pub letter : ℕ
   pub body_length : ℕ
@@ -36,7 +36,8 @@ pub record KindMeaning : Type 0 where
   pub turn : RowData → List ℕ → List ℕ
   pub trace : RowData → List ℕ → Trace
 
--- What a bank means: the letters that it knows, their body lengths, and of their rows what a kind says of its own.
+-- What a bank means: the letters that it knows, their body lengths, and of their rows what a kind
+-- says of its own.
 pub record Meaning : Type 0 where
   pub known : ℕ → Bool
   pub body_length : ℕ → ℕ

@@ -33,11 +33,15 @@ distinct (x ∷ xs) = not (list_any (nat_eq x) xs) && distinct xs
 -- this letter, so many body bytes, a count from 1 to 32 and that many members
 abbrev pub shaped : ℕ → ℕ → RowData → Bool
 shaped letter long r =
-    (r.letter == letter) && (length r.body == long && (nat_le 1 (count r) && (nat_le (count r) MOST_MEMBERS && length r.members == count r)))
+    (r.letter == letter)
+    && (length r.body == long
+    && (nat_le 1 (count r) && (nat_le (count r) MOST_MEMBERS && length r.members == count r)))
 
 -- a row of another shape is refused; a voice that is not declared goes before a rule that is broken
 abbrev pub verdict : Bool → Bool → Bool → Verdict
-verdict shape declared rule = cond shape (cond declared (cond rule (Ok tt) (Err RuleBroken)) (Err Undeclared)) (Err RuleBroken)
+verdict shape declared rule =
+    cond shape (cond declared (cond rule (Ok tt) (Err RuleBroken)) (Err Undeclared))
+    (Err RuleBroken)
 
 -- all members' voices are among the first n
 abbrev pub declared : ℕ → RowData → Bool

@@ -1,4 +1,5 @@
--- Rows written as bytes, with one byte for each voice, whatever the voice: the low one. Of a row that was read from bytes it is the voice.
+-- Rows written as bytes, with one byte for each voice, whatever the voice: the low one. Of a row
+-- that was read from bytes it is the voice.
 use Rattle.std.specs.Prelude.{◌≡◌, ℕ, ◌/◌, ◌%◌, List, [], ◌∷◌, ◌++◌, flat_map}
 use Rattle.std.specs.Int.{w16}
 use Rattle.std.proofs.Common.{of_z}
@@ -8,7 +9,8 @@ use Rattle.rows.specs.Bytes.{encode, LaidOut}
 
 -- the bytes of a member, and of these members
 abbrev pub written_member : Member → List ℕ
-written_member x = 0x4D ∷ x.voice % 0x100 ∷ of_z w16 x.argument % 0x100 ∷ of_z w16 x.argument / 0x100 ∷ []
+written_member x =
+    0x4D ∷ x.voice % 0x100 ∷ of_z w16 x.argument % 0x100 ∷ of_z w16 x.argument / 0x100 ∷ []
 
 abbrev pub written_members : List Member → List ℕ
 written_members xs = flat_map written_member xs

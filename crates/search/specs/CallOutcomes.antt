@@ -8,7 +8,8 @@ use Rattle.search.specs.Search.{Level, Place, BacksUp, Opens, Steps}
 use Rattle.search.specs.Calls.{TableData, Call, Answer, Does, lost_after}
 
 -- what a call can come to over this store
-pub record CallOutcome (b : Behaviour) (m : Meaning) (t : TableData) (s : b.State) (c : Call) : Type 0 where
+pub record CallOutcome (b : Behaviour) (m : Meaning) (t : TableData) (s : b.State)
+    (c : Call) : Type 0 where
   pub answer : Answer
   pub table : TableData
   pub state : b.State
@@ -20,7 +21,8 @@ abbrev pub LosesNone : {b : Behaviour} {m : Meaning} {t : TableData} {s : b.Stat
 LosesNone D = lost_after D 0 ≡ 0
 
 -- where two stores had lost as many keys before these calls, they have lost as many after them
-abbrev pub SameLost : {b b' : Behaviour} {m m' : Meaning} {t t' : TableData} {s : b.State} {s' : b'.State}
+abbrev pub SameLost : {b b' : Behaviour} {m m' : Meaning} {t t' : TableData} {s : b.State}
+    {s' : b'.State}
     {c c' : Call} {a a' : Answer} {u u' : TableData} {r : b.State} {r' : b'.State}
     → Does b m t s c a u r → Does b' m' t' s' c' a' u' r' → Type 0
 SameLost D D' = (n : ℕ) → lost_after D n ≡ lost_after D' n
@@ -32,14 +34,18 @@ abbrev pub SameKeys : View → View → Type 0
 SameKeys v w = (x : List ℕ) → is_held x v.held ≡ is_held x w.held
 
 -- none of the keys of the nodes that are exhausted in backing up is held when it goes to the store
-abbrev pub BacksNew : {b : Behaviour} {m : Meaning} {rows : List RowData} {ls : List Level} {s : b.State} {p : Place} {t : b.State} {n k : ℕ} → BacksUp b m rows ls s p t n k → Type 0
+abbrev pub BacksNew : {b : Behaviour} {m : Meaning} {rows : List RowData} {ls : List Level}
+    {s : b.State} {p : Place} {t : b.State} {n k : ℕ} → BacksUp b m rows ls s p t n k → Type 0
 BacksNew (BacksUp.root s) = Unit {0}
 BacksNew (BacksUp.next l ls s z) = Unit {0}
-BacksNew {b} {m} {rows} (BacksUp.keeps l ls s t u p n k z K B) = (is_held (key m rows l.sets) (b.view s).held ≡ false) × BacksNew B
-BacksNew {b} {m} {rows} (BacksUp.loses l ls s t u p n k z K B) = (is_held (key m rows l.sets) (b.view s).held ≡ false) × BacksNew B
+BacksNew {b} {m} {rows} (BacksUp.keeps l ls s t u p n k z K B) =
+    (is_held (key m rows l.sets) (b.view s).held ≡ false) × BacksNew B
+BacksNew {b} {m} {rows} (BacksUp.loses l ls s t u p n k z K B) =
+    (is_held (key m rows l.sets) (b.view s).held ≡ false) × BacksNew B
 
 -- none of those that the opening of a node exhausts
-abbrev pub OpensNew : {b : Behaviour} {m : Meaning} {rows : List RowData} {sets : List ℕ} {ls : List Level} {s : b.State} {p : Place} {t : b.State} {n k : ℕ}
+abbrev pub OpensNew : {b : Behaviour} {m : Meaning} {rows : List RowData} {sets : List ℕ}
+    {ls : List Level} {s : b.State} {p : Place} {t : b.State} {n k : ℕ}
     → Opens b m rows sets ls s p t n k → Type 0
 OpensNew (Opens.finds p h) = Unit {0}
 OpensNew (Opens.branches l h) = Unit {0}
@@ -47,7 +53,8 @@ OpensNew (Opens.dies p t n k h B) = BacksNew B
 OpensNew (Opens.hits p t n k h B) = BacksNew B
 
 -- none of those that one node exhausts
-abbrev pub StepsNew : {b : Behaviour} {m : Meaning} {voices : List ℕ} {rows : List RowData} {p : Place} {s : b.State} {q : Place} {t : b.State} {n k : ℕ}
+abbrev pub StepsNew : {b : Behaviour} {m : Meaning} {voices : List ℕ} {rows : List RowData}
+    {p : Place} {s : b.State} {q : Place} {t : b.State} {n k : ℕ}
     → Steps b m voices rows p s q t n k → Type 0
 StepsNew (Steps.first s t p n k O) = OpensNew O
 StepsNew (Steps.again l ls s t p n k O) = OpensNew O

@@ -10,7 +10,8 @@ use Rattle.search.specs.Search.{Place, Steps}
 
 -- ---- tables
 
--- the opening sets of the voices, the rows, where the search stands, the nodes opened since it began and those exhausted since the store was emptied
+-- the opening sets of the voices, the rows, where the search stands, the nodes opened since it
+-- began and those exhausted since the store was emptied
 pub record TableData : Type 0 where
   pub voices : List ℕ
   pub rows : List RowData
@@ -20,7 +21,8 @@ pub record TableData : Type 0 where
 
 -- a table whose search has not begun
 abbrev pub begun : List ℕ → List RowData → TableData
-begun voices rows = record { voices = voices; rows = rows; place = Place.fresh; opened = 0; exhausted = 0 }
+begun voices rows =
+    record { voices = voices; rows = rows; place = Place.fresh; opened = 0; exhausted = 0 }
 
 -- a table with no voices and no rows
 abbrev pub empty : TableData
@@ -57,7 +59,8 @@ pub data Call : Type 0 where
   read : List ℕ → Call
   wipe : Call
 
--- A refusal has its number; `wrote` tells how many values were written, and the buffer as it then is.
+-- A refusal has its number; `wrote` tells how many values were written, and the buffer as it then
+-- is.
 pub data Answer : Type 0 where
   done : Answer
   refused : ℕ → Answer
@@ -84,7 +87,8 @@ reasons m t (solve b) =
     (13, (b == 0) || nat_lt MOST_BUDGET b)
     ∷ (14, not (over t.place) && nat_lt MOST_OPENED (t.opened + b))
     ∷ []
-reasons m t (read buffer) = (15, not (is_found t.place)) ∷ (16, nat_lt (length buffer) (length (result t.place))) ∷ []
+reasons m t (read buffer) =
+    (15, not (is_found t.place)) ∷ (16, nat_lt (length buffer) (length (result t.place))) ∷ []
 reasons m t wipe = []
 
 -- what becomes of this call
@@ -105,7 +109,8 @@ node_more t p n = record {
 
 -- So many nodes, one after the other, none of them after the search is over; over a store with
 -- the behaviour b, from one state to another. The last number is how many keys the store lost.
-pub data OpensNodes (b : Behaviour) (m : Meaning) : ℕ → TableData → b.State → TableData → b.State → ℕ → Type 0 where
+pub data OpensNodes (b : Behaviour) (m : Meaning) : ℕ → TableData → b.State → TableData → b.State
+    → ℕ → Type 0 where
   stay : (t : TableData) (s : b.State) → OpensNodes b m zero t s t s 0
   more : (i : ℕ) (t u : TableData) (s r x : b.State) (p : Place) (n k lost : ℕ)
       → Steps b m t.voices t.rows t.place s p r n k
@@ -131,15 +136,19 @@ place_answer Place.none = none
 -- ---- what a call does to a table and its store
 
 -- The call, its answer, and the table and the state of the store that it leaves.
-pub data Does (b : Behaviour) (m : Meaning) (t : TableData) (s : b.State) : Call → Answer → TableData → b.State → Type 0 where
+pub data Does (b : Behaviour) (m : Meaning) (t : TableData) (s : b.State) : Call → Answer
+    → TableData → b.State → Type 0 where
   -- a declined call leaves both as they are
   declines : (c : Call) (n : ℕ) → judged m t c ≡ declined n → Does b m t s c (refused n) t s
   -- Declare, Post and Wipe empty the store, and the search begins again
-  declares : (set : ℕ) (r : b.State) → judged m t (declare set) ≡ passes → b.empties s r → Does b m t s (declare set) done (begun (t.voices ++ (set ∷ [])) t.rows) r
-  posts : (bs : List ℕ) (r : b.State) → judged m t (post bs) ≡ passes → b.empties s r → Does b m t s (post bs) done (begun t.voices (t.rows ++ (decode m bs ∷ []))) r
+  declares : (set : ℕ) (r : b.State) → judged m t (declare set) ≡ passes → b.empties s r
+      → Does b m t s (declare set) done (begun (t.voices ++ (set ∷ [])) t.rows) r
+  posts : (bs : List ℕ) (r : b.State) → judged m t (post bs) ≡ passes → b.empties s r
+      → Does b m t s (post bs) done (begun t.voices (t.rows ++ (decode m bs ∷ []))) r
   wipes : (r : b.State) → b.empties s r → Does b m t s wipe done empty r
   -- Solve goes on from where the last one stopped
-  solves : (budget : ℕ) (u : TableData) (r : b.State) (lost : ℕ) → judged m t (solve budget) ≡ passes
+  solves : (budget : ℕ) (u : TableData) (r : b.State) (lost : ℕ)
+      → judged m t (solve budget) ≡ passes
       → Solved b m budget t s u r lost → Does b m t s (solve budget) (place_answer u.place) u r
   -- the values at the front of the buffer, and the bytes beyond as they were
   reads : (buffer p : List ℕ) → judged m t (read buffer) ≡ passes → t.place ≡ Place.found p

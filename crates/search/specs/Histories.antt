@@ -6,11 +6,13 @@ use Rattle.stores.specs.Behaviours.{Behaviour}
 use Rattle.search.specs.Calls.{TableData, empty, Call, Answer, Formed, Does, lost_after}
 use Rattle.search.specs.Calls.Call.{declare, post, solve, read, wipe}
 
--- What was called and answered, the newest first, since Make gave an empty table over a store in the state g, which it emptied; and the table and the state that it
--- led to.
-pub data History (b : Behaviour) (m : Meaning) (g : b.State) : List (Call × Answer) → TableData → b.State → Type 0 where
+-- What was called and answered, the newest first, since Make gave an empty table over a store in
+-- the state g, which it emptied; and the table and the state that it led to.
+pub data History (b : Behaviour) (m : Meaning) (g : b.State) : List (Call × Answer) → TableData
+    → b.State → Type 0 where
   made : (s : b.State) → b.empties g s → History b m g [] empty s
-  then : (h : List (Call × Answer)) (t u : TableData) (s r : b.State) (c : Call) (a : Answer) → History b m g h t s → Formed c → Does b m t s c a u r
+  then : (h : List (Call × Answer)) (t u : TableData) (s r : b.State) (c : Call) (a : Answer)
+      → History b m g h t s → Formed c → Does b m t s c a u r
       → History b m g ((c, a) ∷ h) u r
 
 -- how many keys the store has lost since it was last emptied
@@ -40,7 +42,8 @@ is_done (Answer.wrote n b) = false
 -- the opening sets of the voices that the calls have declared, by calls and answers alone
 abbrev pub declared_voices : List (Call × Answer) → List ℕ
 declared_voices [] = []
-declared_voices ((declare s, a) ∷ h) = cond (is_done a) (declared_voices h ++ (s ∷ [])) (declared_voices h)
+declared_voices ((declare s, a) ∷ h) =
+    cond (is_done a) (declared_voices h ++ (s ∷ [])) (declared_voices h)
 declared_voices ((post bs, a) ∷ h) = declared_voices h
 declared_voices ((solve b, a) ∷ h) = declared_voices h
 declared_voices ((read b, a) ∷ h) = declared_voices h
@@ -50,7 +53,8 @@ declared_voices ((wipe, a) ∷ h) = []
 abbrev pub posted_rows : Meaning → List (Call × Answer) → List RowData
 posted_rows m [] = []
 posted_rows m ((declare s, a) ∷ h) = posted_rows m h
-posted_rows m ((post bs, a) ∷ h) = cond (is_done a) (posted_rows m h ++ (decode m bs ∷ [])) (posted_rows m h)
+posted_rows m ((post bs, a) ∷ h) =
+    cond (is_done a) (posted_rows m h ++ (decode m bs ∷ [])) (posted_rows m h)
 posted_rows m ((solve b, a) ∷ h) = posted_rows m h
 posted_rows m ((read b, a) ∷ h) = posted_rows m h
 posted_rows m ((wipe, a) ∷ h) = []

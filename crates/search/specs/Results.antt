@@ -21,9 +21,10 @@ abbrev pub Stable : Meaning → List RowData → List ℕ → Type 0
 Stable m [] s = Unit {0}
 Stable m (r ∷ rows) s = (m.turn r s ≡ s) × Stable m rows s
 
--- What is left of the sets s by a round of these rows that was run, and its answer: whether another is due, and from which row on none changes the sets
--- that are left.
-pub record RoundDone (m : Meaning) (rows : List Row) (s : List ℕ) (due : Option ℕ) (t : List ℕ) : Type 0 where
+-- What is left of the sets s by a round of these rows that was run, and its answer: whether another
+-- is due, and from which row on none changes the sets that are left.
+pub record RoundDone (m : Meaning) (rows : List Row) (s : List ℕ) (due : Option ℕ)
+    (t : List ℕ) : Type 0 where
   pub after : t ≡ (round m (rows_of rows) s).sets
   pub value : is_some due ≡ (round m (rows_of rows) s).again
   pub rest : IfSome due (λ k. Stable m (rows_of (drop k rows)) t)
@@ -45,7 +46,8 @@ pub record Projects (m : Meaning) (rows : List RowData) (s t : List ℕ) : Type 
   -- the same voices are fixed, and the other sets are the same
   pub alike : Alike s t
   -- the rows hold for the same values of the other voices
-  pub same_fillings : (p q : List ℕ) → Within p s → Within q t → Agree s p q → list_all (λ r. m.holds r p) rows ≡ list_all (λ r. m.holds r q) rows
+  pub same_fillings : (p q : List ℕ) → Within p s → Within q t → Agree s p q
+      → list_all (λ r. m.holds r p) rows ≡ list_all (λ r. m.holds r q) rows
   -- so where the first have no lawful placing, neither have the second
   pub both_fail : Lawless m s rows → Lawless m t rows
 
@@ -54,7 +56,8 @@ pub record Projects (m : Meaning) (rows : List RowData) (s t : List ℕ) : Type 
 -- what a table and its store say, whatever the calls were, where the store has lost so many keys
 -- since it was emptied
 pub record Invariant (m : Meaning) (lost : ℕ) (t : TableData) (v : View) : Type 0 where
-  -- what a finished search has found is the least lawful placing; where it has found none, there is none
+  -- what a finished search has found is the least lawful placing; where it has found none, there is
+  -- none
   pub found_least : (p : List ℕ) → t.place ≡ Place.found p → Least m t.voices t.rows p
   pub none_lawful : t.place ≡ Place.none → Lawless m t.voices t.rows
   -- a store that has lost no key holds as many as nodes were exhausted
@@ -98,8 +101,10 @@ finished Answer.none = true
 finished Answer.stopped = false
 finished (Answer.wrote n b) = false
 
--- what a Read wrote: as many values as there are voices, the least lawful placing, and the rest of the buffer as it was
-pub record Reads (m : Meaning) (voices : List ℕ) (rows : List RowData) (buffer : List ℕ) (n : ℕ) (b : List ℕ) : Type 0 where
+-- what a Read wrote: as many values as there are voices, the least lawful placing, and the rest of
+-- the buffer as it was
+pub record Reads (m : Meaning) (voices : List ℕ) (rows : List RowData) (buffer : List ℕ) (n : ℕ)
+    (b : List ℕ) : Type 0 where
   pub many : n ≡ length voices
   pub least : Least m voices rows (take n b)
   pub beyond : drop n b ≡ drop n buffer
@@ -108,10 +113,12 @@ pub record Reads (m : Meaning) (voices : List ℕ) (rows : List RowData) (buffer
 
 -- an accepted Solve with this budget
 pub record Budgeted (t : TableData) (budget : ℕ) (a : Answer) (u : TableData) : Type 0 where
-  -- it opens at most the budget, and says stopped exactly when it opened that many and the search is not over
+  -- it opens at most the budget, and says stopped exactly when it opened that many and the search
+  -- is not over
   pub at_least : t.opened ≤ u.opened
   pub at_most : u.opened ≤ t.opened + budget
-  pub stopped_exactly : (a ≡ Answer.stopped) ↔ ((u.opened ≡ t.opened + budget) × (over u.place ≡ false))
+  pub stopped_exactly : (a ≡ Answer.stopped)
+      ↔ ((u.opened ≡ t.opened + budget) × (over u.place ≡ false))
   -- its answer is what it finished with, and no voice or row is altered
   pub answer : a ≡ place_answer u.place
   pub same_voices : u.voices ≡ t.voices

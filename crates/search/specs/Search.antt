@@ -11,14 +11,15 @@ use Rattle.search.specs.Propagation.{propagated}
 
 -- ---- levels
 
--- a level, one node with children still to be searched: its propagated sets, the voice that its children fix, and the values that are left to try
+-- a level, one node with children still to be searched: its propagated sets, the voice that its
+-- children fix, and the values that are left to try
 pub record Level : Type 0 where
   pub sets : List ℕ
   pub voice : ℕ
   pub left : ℕ
 
--- where a search stands: its root is not opened yet; a child of the newest level is opened next (the older levels follow, newest first); it has found
--- these values; there is no lawful placing
+-- where a search stands: its root is not opened yet; a child of the newest level is opened next
+-- (the older levels follow, newest first); it has found these values; there is no lawful placing
 pub data Place : Type 0 where
   fresh : Place
   going : Level → List Level → Place
@@ -38,18 +39,24 @@ pub record Lowest (s : List ℕ) (k : ℕ) : Type 0 where
   pub free : fixed (slice_index s k) ≡ false
   pub before : (j : ℕ) → j < k → fixed (slice_index s j) ≡ true
 
--- The voices below this one are fixed in every node under these levels: a level's voice is its lowest that is not, and its children fix that one.
+-- The voices below this one are fixed in every node under these levels: a level's voice is its
+-- lowest that is not, and its children fix that one.
 abbrev pub below : List Level → ℕ
 below [] = 0
 below (l ∷ ls) = suc l.voice
 
 -- the level of a node whose voices below k are fixed: it branches on the lowest voice that is not
 abbrev pub level_of : ℕ → List ℕ → Level
-level_of k s = record { sets = s; voice = first_open k (drop k s); left = slice_index s (first_open k (drop k s)) }
+level_of k s = record {
+  sets = s;
+  voice = first_open k (drop k s);
+  left = slice_index s (first_open k (drop k s));
+}
 
 -- ---- nodes
 
--- what a node is, once its sets are propagated: some set is empty; all voices are fixed, at these values; the store holds its key; it has children
+-- what a node is, once its sets are propagated: some set is empty; all voices are fixed, at these
+-- values; the store holds its key; it has children
 pub data Node : Type 0 where
   dead : Node
   solution : List ℕ → Node
@@ -69,7 +76,8 @@ node m rows v k s =
           ]
     ]
 
--- the sets of the child that is opened next: the voice is fixed to the least value that is left to try
+-- the sets of the child that is opened next: the voice is fixed to the least value that is left to
+-- try
 abbrev pub child : Level → List ℕ
 child l = slice_set l.sets l.voice (only (least l.left))
 
@@ -81,25 +89,43 @@ taken l = record { sets = l.sets; voice = l.voice; left = l.left - only (least l
 
 -- Over a store with the behaviour b, which is in the state s before and t afterwards.
 
--- Backing up (backtracking) from a failed node below these levels: a level with no value left to try is exhausted, and its key goes to the store. Where the search
--- stands then, the store's state, how many levels were exhausted and how many keys were lost.
-pub data BacksUp (b : Behaviour) (m : Meaning) (rows : List RowData) : List Level → b.State → Place → b.State → ℕ → ℕ → Type 0 where
+-- Backing up (backtracking) from a failed node below these levels: a level with no value left to
+-- try is exhausted, and its key goes to the store. Where the search stands then, the store's state,
+-- how many levels were exhausted and how many keys were lost.
+pub data BacksUp (b : Behaviour) (m : Meaning) (rows : List RowData) : List Level → b.State → Place
+    → b.State → ℕ → ℕ → Type 0 where
   root : (s : b.State) → BacksUp b m rows [] s none s 0 0
-  next : (l : Level) (ls : List Level) (s : b.State) → (l.left == 0) ≡ false → BacksUp b m rows (l ∷ ls) s (going l ls) s 0 0
-  keeps : (l : Level) (ls : List Level) (s t u : b.State) (p : Place) (n k : ℕ) → (l.left == 0) ≡ true
-      → b.keeps s (key m rows l.sets) Kept t → BacksUp b m rows ls t p u n k → BacksUp b m rows (l ∷ ls) s p u (suc n) k
-  loses : (l : Level) (ls : List Level) (s t u : b.State) (p : Place) (n k : ℕ) → (l.left == 0) ≡ true
-      → b.keeps s (key m rows l.sets) Lost t → BacksUp b m rows ls t p u n k → BacksUp b m rows (l ∷ ls) s p u (suc n) (suc k)
+  next : (l : Level) (ls : List Level) (s : b.State) → (l.left == 0) ≡ false
+      → BacksUp b m rows (l ∷ ls) s (going l ls) s 0 0
+  keeps : (l : Level) (ls : List Level) (s t u : b.State) (p : Place) (n k : ℕ)
+      → (l.left == 0) ≡ true
+      → b.keeps s (key m rows l.sets) Kept t → BacksUp b m rows ls t p u n k
+      → BacksUp b m rows (l ∷ ls) s p u (suc n) k
+  loses : (l : Level) (ls : List Level) (s t u : b.State) (p : Place) (n k : ℕ)
+      → (l.left == 0) ≡ true
+      → b.keeps s (key m rows l.sets) Lost t → BacksUp b m rows ls t p u n k
+      → BacksUp b m rows (l ∷ ls) s p u (suc n) (suc k)
 
 -- Opening the node with the given sets below the levels ls: the same four things.
-pub data Opens (b : Behaviour) (m : Meaning) (rows : List RowData) (sets : List ℕ) (ls : List Level) (s : b.State) : Place → b.State → ℕ → ℕ → Type 0 where
-  finds : (p : List ℕ) → node m rows (b.view s) (below ls) (propagated m rows sets) ≡ solution p → Opens b m rows sets ls s (found p) s 0 0
-  branches : (l : Level) → node m rows (b.view s) (below ls) (propagated m rows sets) ≡ branch l → Opens b m rows sets ls s (going l ls) s 0 0
-  dies : (p : Place) (t : b.State) (n k : ℕ) → node m rows (b.view s) (below ls) (propagated m rows sets) ≡ dead → BacksUp b m rows ls s p t n k → Opens b m rows sets ls s p t n k
-  hits : (p : Place) (t : b.State) (n k : ℕ) → node m rows (b.view s) (below ls) (propagated m rows sets) ≡ hit → BacksUp b m rows ls s p t n k → Opens b m rows sets ls s p t n k
+pub data Opens (b : Behaviour) (m : Meaning) (rows : List RowData) (sets : List ℕ) (ls : List Level)
+    (s : b.State) : Place → b.State → ℕ → ℕ → Type 0 where
+  finds : (p : List ℕ) → node m rows (b.view s) (below ls) (propagated m rows sets) ≡ solution p
+      → Opens b m rows sets ls s (found p) s 0 0
+  branches : (l : Level) → node m rows (b.view s) (below ls) (propagated m rows sets) ≡ branch l
+      → Opens b m rows sets ls s (going l ls) s 0 0
+  dies : (p : Place) (t : b.State) (n k : ℕ)
+      → node m rows (b.view s) (below ls) (propagated m rows sets) ≡ dead
+      → BacksUp b m rows ls s p t n k → Opens b m rows sets ls s p t n k
+  hits : (p : Place) (t : b.State) (n k : ℕ)
+      → node m rows (b.view s) (below ls) (propagated m rows sets) ≡ hit
+      → BacksUp b m rows ls s p t n k → Opens b m rows sets ls s p t n k
 
--- One node: the root, with the opening sets, of a fresh search, or the next child of the newest level.
-pub data Steps (b : Behaviour) (m : Meaning) (voices : List ℕ) (rows : List RowData) : Place → b.State → Place → b.State → ℕ → ℕ → Type 0 where
-  first : (s t : b.State) (p : Place) (n k : ℕ) → Opens b m rows voices [] s p t n k → Steps b m voices rows fresh s p t n k
-  again : (l : Level) (ls : List Level) (s t : b.State) (p : Place) (n k : ℕ) → Opens b m rows (child l) (taken l ∷ ls) s p t n k
+-- One node: the root, with the opening sets, of a fresh search, or the next child of the newest
+-- level.
+pub data Steps (b : Behaviour) (m : Meaning) (voices : List ℕ) (rows : List RowData) : Place
+    → b.State → Place → b.State → ℕ → ℕ → Type 0 where
+  first : (s t : b.State) (p : Place) (n k : ℕ) → Opens b m rows voices [] s p t n k
+      → Steps b m voices rows fresh s p t n k
+  again : (l : Level) (ls : List Level) (s t : b.State) (p : Place) (n k : ℕ)
+      → Opens b m rows (child l) (taken l ∷ ls) s p t n k
       → Steps b m voices rows (going l ls) s p t n k

@@ -1,4 +1,5 @@
--- Lists of sets, one for each voice (variable), and placings (valuations), which give each voice a value.
+-- Lists of sets, one for each voice (variable), and placings (valuations), which give each voice a
+-- value.
 use Rattle.std.specs.Prelude.{◌≡◌, ℕ, ◌^◌, ◌<◌, Bool, true, not, List, map, length, nat_eq, bytes_eq, slice_index, slice_index_or}
 use Rattle.std.specs.List.{list_all, list_any}
 use Rattle.sets.specs.Sets.{has, fixed, least}

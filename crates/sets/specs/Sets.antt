@@ -1,4 +1,5 @@
--- A set of values 0 to 63 (a variable's domain) is a number of 64 bits: bit v is set where the value v is in the set.
+-- A set of values 0 to 63 (a variable's domain) is a number of 64 bits: bit v is set where the
+-- value v is in the set.
 use Rattle.std.specs.Prelude.{ℕ, zero, suc, ◌+◌, ◌-◌, ◌*◌, ◌^◌, Bool, cond, ◌&&◌, ◌==◌, nat_eq, count_ones}
 use Rattle.std.specs.Int.{bit_at}
 use Rattle.std.specs.Int.Count.{count_trailing_zeros, count_leading_zeros}

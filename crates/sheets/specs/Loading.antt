@@ -47,8 +47,8 @@ table_after (accepted voices rows) = begun voices rows
 table_after (refused n place layer) = empty
 
 -- After the calls h, over a store that was in the state g when the table was made, the records of a
--- sheet that is read as this have led to the table u and the state r: by its Declares and Posts, all
--- accepted; where it is refused, by those of the records before the first fault, and a Wipe. No
+-- sheet that is read as this have led to the table u and the state r: by its Declares and Posts,
+-- all accepted; where it is refused, by those of the records before the first fault, and a Wipe. No
 -- key is lost then, since each of these calls empties the store.
 abbrev pub FillHistory : (b : Behaviour) (m : Meaning) (g : b.State) (h : List (Call × Answer))
     (bytes : List ℕ) → SheetReading → TableData → b.State → Type 0
@@ -72,8 +72,8 @@ pub record LoadLeaves (b : Behaviour) (m : Meaning) (bytes : List ℕ) (s : b.St
   pub history : FillHistory b m s [] bytes (read_sheet m bytes) u r
   pub invariant : Invariant m 0 u (b.view r)
 
--- Whatever the calls were that led to an empty table and the state s, in which no key was lost: so it
--- is after the records; and what holds after every history holds.
+-- Whatever the calls were that led to an empty table and the state s, in which no key was lost: so
+-- it is after the records; and what holds after every history holds.
 pub record FillExtends (b : Behaviour) (m : Meaning) (s : b.State) (bytes : List ℕ) (u : TableData)
     (r : b.State) : Type 0 where
   pub history : (g : b.State) (h : List (Call × Answer)) → LeadsTo b m g h empty s 0
@@ -95,9 +95,9 @@ abbrev pub LoadBack : SheetReading → List ℕ → List ℕ → Type 0
 LoadBack (accepted voices rows) bytes saved = saved ≡ bytes
 LoadBack (refused number place layer) bytes saved = Unit {0}
 
--- A new table over a store that was in this state, and the answer of its Load: the one that the sheet
--- must have, the table as a Load leaves it, and, where the sheet was accepted, the bytes as the sheet
--- of that table.
+-- A new table over a store that was in this state, and the answer of its Load: the one that the
+-- sheet must have, the table as a Load leaves it, and, where the sheet was accepted, the bytes as
+-- the sheet of that table.
 module _ {B S : Type 0} {b : bank.Ghosts B} {s : store.Ghosts S} where
   pub record LoadsNew (given : s.behaviour.State) (bytes : List ℕ) (t : tables.Table B S b s)
       (answer : Result Unit SheetRefusal) : Type 0 where
@@ -143,15 +143,16 @@ RecordStored b (row bs) s r = b.empties s r
 RecordStored b (fault number offset layer) s r = r ≡ s
 
 -- a record is read: the answer, and the table and the store then
-pub record RecordRead (b : Behaviour) (m : Meaning) (t : TableData) (s : b.State) (i : RecordReading)
+pub record RecordRead (b : Behaviour) (m : Meaning) (t : TableData) (s : b.State)
+    (i : RecordReading)
     (res : Result (Option ℕ) RecordRefusal) (u : TableData) (r : b.State) : Type 0 where
   pub answer : record_answer res ≡ reading_record_answer i
   pub table : u ≡ record_table m t.voices t.rows i
   pub store : RecordStored b i s r
 
--- Whatever the calls were that led to an empty table and the state s, in which no key was lost: with
--- a Declare for each of these voices and a Post for each of these rows, all accepted, they lead to a
--- table with these, its search not begun, and the state r, in which no key was lost.
+-- Whatever the calls were that led to an empty table and the state s, in which no key was lost:
+-- with a Declare for each of these voices and a Post for each of these rows, all accepted, they
+-- lead to a table with these, its search not begun, and the state r, in which no key was lost.
 abbrev pub Fills : (b : Behaviour) (m : Meaning) (s : b.State)
     (voices : List ℕ) (rows : List RowData) → b.State → Type 0
 Fills b m s voices rows r =

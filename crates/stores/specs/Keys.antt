@@ -14,13 +14,14 @@ voice_words sets = map voice_word sets
 -- each row's trace, mark and content, in row order
 abbrev pub trace_words : Meaning → List ℕ → List RowData → List ℕ
 trace_words m sets [] = []
-trace_words m sets (r ∷ rows) = mark_word (m.trace r sets) ∷ (content_word (m.trace r sets) ∷ trace_words m sets rows)
+trace_words m sets (r ∷ rows) =
+    mark_word (m.trace r sets) ∷ (content_word (m.trace r sets) ∷ trace_words m sets rows)
 
 abbrev pub key : Meaning → List RowData → List ℕ → List ℕ
 key m rows sets = voice_words sets ++ trace_words m sets rows
 
--- what `write_key` returns (the key's length, or none where there is no room), and the words then: those
--- beyond the key stay
+-- what `write_key` returns (the key's length, or none where there is no room), and the words then:
+-- those beyond the key stay
 abbrev pub put_answer : List ℕ → List ℕ → Option ℕ
 put_answer k words = cond (nat_le (length k) (length words)) (Some (length k)) None
 

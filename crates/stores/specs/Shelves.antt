@@ -15,7 +15,9 @@ mixed h w = ((h + w) * 0x9E3779B97F4A7C15) % 2 ^ 64
 -- a hash of the key's words, four at a time
 abbrev pub hash_from : ℕ → List ℕ → ℕ
 hash_from h [] = h
-hash_from h (a ∷ (b ∷ (c ∷ (d ∷ ws)))) = hash_from ((mixed h a + b * 0xC2B2AE3D27D4EB4F + c * 0x165667B19E3779F9 + d * 0xD6E8FEB86659FD93) % 2 ^ 64) ws
+hash_from h (a ∷ (b ∷ (c ∷ (d ∷ ws)))) =
+    hash_from
+    ((mixed h a + b * 0xC2B2AE3D27D4EB4F + c * 0x165667B19E3779F9 + d * 0xD6E8FEB86659FD93) % 2 ^ 64) ws
 hash_from h (w ∷ ws) = hash_from (mixed h w) ws
 
 abbrev pub hash_of : List ℕ → ℕ
@@ -25,7 +27,8 @@ hash_of k = hash_from 0 k
 abbrev pub bucket : List ℕ → ℕ
 bucket k = hash_of k / 2 ^ 54
 
--- the header of a key: its length in the low 16 bits, then a link in 16, above them the high 32 bits of its hash
+-- the header of a key: its length in the low 16 bits, then a link in 16, above them the high 32
+-- bits of its hash
 abbrev pub header : ℕ → List ℕ → ℕ
 header link k = hash_of k / 2 ^ 32 * 2 ^ 32 + link * 65536 + length k
 
@@ -86,13 +89,21 @@ shelf_view s = record { held = s.held; space = s.room - words_of s.held - 1 }
 abbrev pub shelf_emptied : ShelfState → ShelfState
 shelf_emptied s = record { held = []; room = s.room }
 
--- what Keep answers and leaves: a held key moves nothing, one that fits goes behind the others, a lost one alters nothing
+-- what Keep answers and leaves: a held key moves nothing, one that fits goes behind the others, a
+-- lost one alters nothing
 abbrev pub shelf_answer : ShelfState → List ℕ → Stored
-shelf_answer s k = cond (is_held k s.held) Kept (cond (fits_space (length k) (shelf_view s).space) Kept Lost)
+shelf_answer s k =
+    cond (is_held k s.held) Kept (cond (fits_space (length k) (shelf_view s).space) Kept Lost)
 
 abbrev pub shelf_after : ShelfState → List ℕ → ShelfState
-shelf_after s k = cond (is_held k s.held) s (cond (fits_space (length k) (shelf_view s).space) (record { held = s.held ++ (k ∷ []); room = s.room }) s)
+shelf_after s k =
+    cond (is_held k s.held) s
+    (cond (fits_space (length k) (shelf_view s).space)
+    (record { held = s.held ++ (k ∷ []); room = s.room }) s)
 
 -- and the words that are used then
 abbrev pub used_after : List ℕ → ℕ → List ℕ → List ℕ
-used_after used room k = cond (is_held k (shelved_keys used)) used (cond (fits_space (length k) (room - length used - 1)) (used ++ shelf_entry (recent_keys used) k) used)
+used_after used room k =
+    cond (is_held k (shelved_keys used)) used
+    (cond (fits_space (length k) (room - length used - 1))
+    (used ++ shelf_entry (recent_keys used) k) used)

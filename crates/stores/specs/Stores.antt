@@ -33,13 +33,17 @@ pub record Joined (v : View) (k : List ℕ) (w : View) : Type 0 where
   pub count : length w.held ≡ length v.held + 1
   pub distinct : distinct_keys v.held ≡ true → distinct_keys w.held ≡ true
 
--- What a call of Keep may do. Open is only which of the old keys and the new one are held after lost, and the space that is left then or after joining.
+-- What a call of Keep may do. Open is only which of the old keys and the new one are held after
+-- lost, and the space that is left then or after joining.
 pub data Keeps (v : View) (k : List ℕ) : Stored → View → Type 0 where
   -- held already: nothing moves
   again : is_held k v.held ≡ true → Keeps v k Kept v
   -- it fits: it joins the others
-  joins : (w : View) → is_held k v.held ≡ false → fits_space (length k) v.space ≡ true → Joined v k w → Keeps v k Kept w
-  -- it does not fit: what is held is part of the old keys and the new one; a key of no words alters nothing
+  joins : (w : View) → is_held k v.held ≡ false → fits_space (length k) v.space ≡ true
+      → Joined v k w → Keeps v k Kept w
+  -- it does not fit: what is held is part of the old keys and the new one; a key of no words alters
+  -- nothing
   loses : (w : View) → is_held k v.held ≡ false → fits_space (length k) v.space ≡ false
       → ((x : List ℕ) → is_held x w.held ≡ true → (same x k || is_held x v.held) ≡ true)
-      → (distinct_keys v.held ≡ true → distinct_keys w.held ≡ true) → (length k ≡ 0 → w ≡ v) → Keeps v k Lost w
+      → (distinct_keys v.held ≡ true → distinct_keys w.held ≡ true) → (length k ≡ 0 → w ≡ v)
+      → Keeps v k Lost w

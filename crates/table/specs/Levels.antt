@@ -1,4 +1,5 @@
--- Levels as memory holds them: their records, the oldest first, and the sets of all of them, n to a level, in one list (the trail).
+-- Levels as memory holds them: their records, the oldest first, and the sets of all of them, n to a
+-- level, in one list (the trail).
 use Rattle.std.specs.Prelude.{ℕ, zero, suc, ◌*◌, ◌<◌, ◌≤◌, Bool, true, false, List, [], ◌∷◌, length, take, drop, ◌==◌, slice_index_or}
 use Rattle.rows.specs.Rows.{RowData, Meaning}
 use Rattle.stores.specs.Behaviours.{Behaviour}
@@ -13,7 +14,11 @@ no_record = record { voice = 0; left = 0 }
 
 -- the level d, counted from the oldest
 abbrev pub level_at : ℕ → List ℕ → List LevelRecord → ℕ → Level
-level_at n trail records d = record { sets = take n (drop (d * n) trail); voice = (slice_index_or records d no_record).voice; left = (slice_index_or records d no_record).left }
+level_at n trail records d = record {
+  sets = take n (drop (d * n) trail);
+  voice = (slice_index_or records d no_record).voice;
+  left = (slice_index_or records d no_record).left;
+}
 
 -- the first d levels, newest first
 abbrev pub first_levels : ℕ → List ℕ → List LevelRecord → ℕ → List Level
@@ -26,7 +31,9 @@ levels_at n trail records = first_levels n trail records (length records)
 
 -- each level branches on one of the n voices, and on none below its own number
 abbrev pub Voiced : ℕ → List LevelRecord → Type 0
-Voiced n records = (i : ℕ) → i < length records → (i ≤ (slice_index_or records i no_record).voice) × ((slice_index_or records i no_record).voice < n)
+Voiced n records =
+    (i : ℕ) → i < length records → (i ≤ (slice_index_or records i no_record).voice)
+    × ((slice_index_or records i no_record).voice < n)
 
 -- ---- what is done with levels, newest first
 
@@ -49,7 +56,8 @@ abbrev pub without_newest : List Level → List Level
 without_newest [] = []
 without_newest (l ∷ ls) = ls
 
--- the sets of the node that is opened next, the root or the newest level's next child, and the levels that it is opened below
+-- the sets of the node that is opened next, the root or the newest level's next child, and the
+-- levels that it is opened below
 abbrev pub next_sets : List ℕ → List Level → List ℕ
 next_sets voices [] = voices
 next_sets voices (l ∷ ls) = child l
@@ -68,6 +76,7 @@ abbrev pub KeyGiven : (b : Behaviour) → b.State → List ℕ → b.State → T
 KeyGiven b s k t = (r : Stored) × b.keeps s k r t
 
 -- backing up from a failed node below the levels ls leaves the levels rest; n levels are exhausted
-pub record Backed (b : Behaviour) (m : Meaning) (rows : List RowData) (ls : List Level) (s : b.State) (rest : List Level) (t : b.State) (n : ℕ) : Type 0 where
+pub record Backed (b : Behaviour) (m : Meaning) (rows : List RowData) (ls : List Level)
+    (s : b.State) (rest : List Level) (t : b.State) (n : ℕ) : Type 0 where
   pub lost : ℕ
   pub backs : BacksUp b m rows ls s (place_backed_up rest) t n lost

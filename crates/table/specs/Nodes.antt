@@ -13,7 +13,8 @@ node_of Solution s = solution (values s)
 node_of Hit s = hit
 node_of (Branch v) s = branch (record { sets = s; voice = v; left = slice_index s v })
 
--- the voice that a node branches on is one of its own, from k on, and has a value; and no set is empty
+-- the voice that a node branches on is one of its own, from k on, and has a value; and no set is
+-- empty
 abbrev pub Branches : NodeClass → ℕ → List ℕ → Type 0
 Branches Dead k s = Unit {0}
 Branches Solution k s = Unit {0}

@@ -58,7 +58,8 @@ pub record Ran (b : Behaviour) (m : Meaning) (n : ℕ) (t : TableData) (s : b.St
   pub goes : OpensNodes b m n t s u r lost
 
 -- nodes are opened with this budget; the store loses some number of keys
-pub record Runs (b : Behaviour) (m : Meaning) (budget : ℕ) (t : TableData) (s : b.State) (u : TableData)
+pub record Runs (b : Behaviour) (m : Meaning) (budget : ℕ) (t : TableData) (s : b.State)
+    (u : TableData)
     (r : b.State) : Type 0 where
   pub lost : ℕ
   pub solved : Solved b m budget t s u r lost

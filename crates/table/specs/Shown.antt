@@ -40,7 +40,8 @@ module _ {B S : Type 0} {b : bank.Ghosts B} {s : store.Ghosts S} where
 
   -- and by how it extends every history of calls
   abbrev pub CallExtends : Table B S b s → Call → Answer → Table B S b s → Type 0
-  CallExtends t c a u = ExtendsHistories s.behaviour b.meaning (model t) (store_in t) c a (model u) (store_in u)
+  CallExtends t c a u =
+      ExtendsHistories s.behaviour b.meaning (model t) (store_in t) c a (model u) (store_in u)
 
   -- what Make gives over a store in this state: a table with which a history begins
   abbrev pub Begins : s.behaviour.State → Table B S b s → Type 0
