@@ -47,7 +47,8 @@ differs_4 =
 abbrev pub differs_5 : RowData
 differs_5 =
     row 0x41 (5 ∷ [])
-    (row_member 0 (pos 0) ∷ row_member 1 (pos 0) ∷ row_member 2 (pos 0) ∷ row_member 3 (pos 0) ∷ row_member 4 (pos 0) ∷ [])
+    (row_member 0 (pos 0) ∷ row_member 1 (pos 0) ∷ row_member 2 (pos 0)
+    ∷ row_member 3 (pos 0) ∷ row_member 4 (pos 0) ∷ [])
 
 -- voice 0 twice
 abbrev pub differs_twice : RowData
@@ -59,7 +60,8 @@ differs_argument = row 0x41 (1 ∷ []) (row_member 0 (negsuc 0) ∷ [])
 abbrev pub sum_5 : RowData
 sum_5 =
     row 0x4C (5 ∷ 20 ∷ 0 ∷ 0 ∷ 0 ∷ [])
-    (row_member 0 (pos 1) ∷ row_member 1 (pos 2) ∷ row_member 2 (pos 1) ∷ row_member 3 (pos 1) ∷ row_member 4 (pos 2) ∷ [])
+    (row_member 0 (pos 1) ∷ row_member 1 (pos 2) ∷ row_member 2 (pos 1)
+    ∷ row_member 3 (pos 1) ∷ row_member 4 (pos 2) ∷ [])
 
 -- coefficients -2 and -3, bound -5
 abbrev pub sum_2 : RowData

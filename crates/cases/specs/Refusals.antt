@@ -43,8 +43,8 @@ with_short_rows n = begun (6 ∷ []) (replicate n (decode differing (first_diffe
 -- 32 voices; 62 rows of 130 bytes, and so many that say that the first k voices differ
 abbrev pub long_rows : ℕ → ℕ → List RowData
 long_rows n k =
-    replicate 62 (decode differing (first_differ 32)) ++ replicate n
-    (decode differing (first_differ k))
+    replicate 62 (decode differing (first_differ 32))
+    ++ replicate n (decode differing (first_differ k))
 
 abbrev pub with_long_rows : ℕ → ℕ → TableData
 with_long_rows n k = begun (replicate 32 6) (long_rows n k)

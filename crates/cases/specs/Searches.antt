@@ -31,8 +31,8 @@ three_root = record { sets = 6 ∷ 6 ∷ 6 ∷ []; voice = 0; left = 4 }
 abbrev pub five_posted : List (Call × Answer)
 five_posted =
     (post (first_differ 5), done)
-    ∷ (declare 24, done) ∷ (declare 24, done) ∷ (declare 24, done) ∷ (declare 6, done) ∷
-    (declare 6, done) ∷ []
+    ∷ (declare 24, done) ∷ (declare 24, done) ∷ (declare 24, done)
+    ∷ (declare 6, done) ∷ (declare 6, done) ∷ []
 
 abbrev pub five_at : Place → ℕ → ℕ → TableData
 five_at place opened exhausted =

@@ -17,7 +17,7 @@ mod title;
 // How many words the shelf has.
 const SHELF_WORDS: usize = 4096;
 
-// Whether the kinds accept the rows; an error where one is refused.
+// An error where a kind refuses one of the rows.
 fn check_rows(rows: &[Row]) -> Result<(), KindRefusal> {
     for row in rows {
         FourKinds::accept(row, title::VOICES.len())?;

@@ -15,8 +15,8 @@ use std::alloc::{AllocError, Global};
 use stores::bare::Bare;
 use stores::shelf::Shelf;
 
-/// Plays the calls on two tables over the four kinds: one over the bare store, and one over a new shelf of `count` words.
-/// Returns the replies over each.
+/// Plays the calls on two tables over the four kinds: one over the bare store, and one over a new
+/// shelf of `count` words. Returns the replies over each.
 ///
 /// # Errors
 /// There is no memory for the shelf, a table or the replies.

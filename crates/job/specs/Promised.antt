@@ -18,7 +18,7 @@ pub data Reports (m : Meaning) (voices : List ℕ) (rows : List RowData) : List 
   stopped : (exhausted : ℕ)
       → Reports m voices rows (outcome_text (codes "stopped") MOST_BUDGET exhausted [])
 
--- an accepted sheet is reported so; a declined one by its first fault
+-- an accepted sheet is reported so; a refused one by its first fault
 abbrev pub Promised : Meaning → SheetReading → List ℕ → Type 0
 Promised m (accepted voices rows) text = Reports m voices rows text
 Promised m (refused number place layer) text = text ≡ refused_line number place layer

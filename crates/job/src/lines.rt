@@ -16,7 +16,7 @@ fn put_end(writer: &mut Writer)
     writer.put(b"\n");
 }
 
-// Why a sheet was declined.
+// Why a sheet was refused.
 pub(crate) fn put_refusal(writer: &mut Writer, fault: SheetRefusal)
     ensures { Wrote (refused_line (cause_number fault.cause) fault.place (cause_layer fault.cause))
         writer.old writer.new }

@@ -30,10 +30,11 @@ pub fn planned(heap: Global, sheet: &[u8]) -> Result<Vec<u8>, AllocError>
     plan::<FourKinds, Shelf>(heap, Shelf::new(&mut words), sheet)
 }
 
-/// Whether these bytes are the report of the sheet, of which the first 20,000 bytes count.
+/// Plans the sheet, of which the first 20,000 bytes count, and compares: true only where these bytes
+/// are a report of it.
 ///
 /// # Errors
-/// There is no memory for the report.
+/// There is no memory for the shelf, the table or the report.
 pub fn is_report(heap: Global, report: &[u8], sheet: &[u8]) -> Result<bool, AllocError>
     ensures promise { IfOk result (λ same. same ≡ true →
         Promised four_kinds (read_sheet four_kinds (take MOST_SHEET sheet.now)) report.now) }

@@ -42,8 +42,8 @@ within r s m v = int_le (term m v +ℤ (total (low s) r.members -ℤ low s m)) (
 abbrev pub always_within : RowData → List ℕ → Bool
 always_within r s = int_le (total (high s) r.members) (bound r)
 
--- what the fixed members add up to, from 4,000,000 on: so large that no accepted row has less than
--- 0
+-- what the fixed members add up to, and 4,000,000 more: so large that no accepted row has less
+-- than 0
 abbrev pub linear_content : RowData → List ℕ → ℕ
 linear_content r s = unsigned_abs (total (placed s) r.members +ℤ pos 4000000)
 

@@ -105,7 +105,5 @@ pub record LaidOut (m : Meaning) (r : RowData) : Type 0 where
 -- Such rows and the bytes of the layout stand for each other.
 abbrev pub BytesBothWays : Type 0
 BytesBothWays = (m : Meaning)
-    → ((r : RowData) → LaidOut m r
-    → Bytes (encode r) × Layout m (encode r) × (decode m (encode r) ≡ r))
-    × ((bs : List ℕ) → Bytes bs → Layout m bs
-    → LaidOut m (decode m bs) × (encode (decode m bs) ≡ bs))
+    → ((r : RowData) → LaidOut m r → Bytes (encode r) × Layout m (encode r) × (decode m (encode r) ≡ r))
+    × ((bs : List ℕ) → Bytes bs → Layout m bs → LaidOut m (decode m bs) × (encode (decode m bs) ≡ bs))

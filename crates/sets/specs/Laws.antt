@@ -24,13 +24,16 @@ pub record SetLaws : Type 0 where
   pub greatest_member : (s : ℕ) → Word s → 0 < s → has s (greatest s) ≡ true
   pub greatest_last : (s v : ℕ) → Word s → has s v ≡ true → v ≤ greatest s
   -- exactly one member: fixed, and the member is the least
-  pub one_fixed : (s v : ℕ) → Word s → has s v ≡ true → ((w : ℕ) → has s w ≡ true → w ≡ v) → fixed s ≡ true
+  pub one_fixed : (s v : ℕ) → Word s → has s v ≡ true → ((w : ℕ) → has s w ≡ true → w ≡ v)
+      → fixed s ≡ true
   pub fixed_least : (s v : ℕ) → Word s → fixed s ≡ true → has s v ≡ true → v ≡ least s
   pub only_member : (v w : ℕ) → has (only v) w ≡ (w == v)
   -- taking the least out leaves the members above it
-  pub above_least : (s w : ℕ) → Word s → 0 < s → has (s - only (least s)) w ≡ (has s w && nat_lt (least s) w)
+  pub above_least : (s w : ℕ) → Word s → 0 < s
+      → has (s - only (least s)) w ≡ (has s w && nat_lt (least s) w)
   -- fewer members after a removal
-  pub one_fewer : (s v : ℕ) → Word s → has s v ≡ true → count_ones s ≡ suc (count_ones (sift (λ w. not (w == v)) s))
+  pub one_fewer : (s v : ℕ) → Word s → has s v ≡ true
+      → count_ones s ≡ suc (count_ones (sift (λ w. not (w == v)) s))
   pub part_fewer : (t s : ℕ) → Word t → Word s → Part t s → t ≢ s → count_ones t < count_ones s
   -- the members of the set of what passes
   pub mask_members : (f : ℕ → Bool) (v : ℕ) → v < 64 → has (mask 64 f) v ≡ f v

@@ -61,8 +61,8 @@ pub data SheetReading : Type 0 where
   accepted : List ℕ → List RowData → SheetReading
   refused : ℕ → ℕ → Layer → SheetReading
 
--- what the bytes are read as with this at their front, which is at the place `at`, after the
--- records of these voices and rows; `next` says what the bytes after it are read as
+-- what bytes at the place `at` are read as, after the records of these voices and rows, where the
+-- record at their front is read so; `next` says what the bytes after it are read as
 abbrev pub read_on : Meaning → (ℕ → List ℕ → List RowData → List ℕ → SheetReading)
     → ℕ → List ℕ → List RowData → List ℕ → RecordReading → SheetReading
 read_on m next at voices rows bs last = accepted voices rows

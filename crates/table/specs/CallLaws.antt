@@ -16,8 +16,8 @@ ReadMeans m h buffer Answer.none = Unit {0}
 ReadMeans m h buffer Answer.stopped = Unit {0}
 ReadMeans m h buffer (Answer.wrote n b) = Reads m (declared_voices h) (posted_rows m h) buffer n b
 
--- What an answer says of the voices and rows that the calls before it gave: of Solve, the least lawful placing, or that there is none; of Read, that
--- this placing was written.
+-- What an answer says of the voices and rows that the calls before it gave: of Solve, the least
+-- lawful placing, or that there is none; of Read, that this placing was written.
 abbrev pub AnswerMeans : Meaning → List (Call × Answer) → Call → Answer → Type 0
 AnswerMeans m h (declare s) a = Unit {0}
 AnswerMeans m h (post bs) a = Unit {0}

@@ -32,7 +32,8 @@ levels_at n trail records = first_levels n trail records (length records)
 -- each level branches on one of the n voices, and on none below its own number
 abbrev pub Voiced : ℕ → List LevelRecord → Type 0
 Voiced n records =
-    (i : ℕ) → i < length records → (i ≤ (slice_index_or records i no_record).voice)
+    (i : ℕ) → i < length records
+    → (i ≤ (slice_index_or records i no_record).voice)
     × ((slice_index_or records i no_record).voice < n)
 
 -- ---- what is done with levels, newest first

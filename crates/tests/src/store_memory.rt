@@ -4,24 +4,27 @@ use stores::bare::Bare;
 use stores::shelf::Shelf;
 use stores::store::{Store, Stored};
 
-// Keys given to a shelf of 16 words, one after the other, and what becomes of each: keys of one word, of equal
-// prefixes, and a held one, which does not move. Then 8 words are used: a key of 7 fits exactly, and no more does.
-static KEPT: [(&[u64], Stored); 7] = [
+// Keys given to a shelf of 16 words, one after the other, and what becomes of each: keys of one word and of equal
+// prefixes; then a held one, which does not move, so that 8 words are used: a key of 7 fits exactly, and no more does.
+static KEPT_FIRST: [(&[u64], Stored); 3] = [
     (&[7], Stored::Kept),
     (&[7, 7], Stored::Kept),
     (&[7, 8], Stored::Kept),
+];
+
+static KEPT_THEN: [(&[u64], Stored); 4] = [
     (&[7, 7], Stored::Kept),
     (&[1, 2, 3, 4, 5, 6, 7], Stored::Kept),
     (&[9], Stored::Lost),
     (&[7], Stored::Kept),
 ];
 
-// Keys looked up after that, and whether the shelf holds them: also a prefix, other lengths, and no words.
-static FOUND: [(&[u64], bool); 9] = [
+// Keys, and whether the shelf holds them: after the first keys, and after the others too. Some have a held key's
+// beginning, one has no words.
+static FOUND: [(&[u64], bool); 8] = [
     (&[7], true),
     (&[7, 7], true),
     (&[7, 8], true),
-    (&[1, 2, 3, 4, 5, 6, 7], true),
     (&[8], false),
     (&[9], false),
     (&[7, 9], false),
@@ -33,12 +36,19 @@ static FOUND: [(&[u64], bool); 9] = [
 fn small_keys(rt: HostRuntime) {
     let mut words = [0u64; 16];
     let mut shelf = Shelf::new(&mut words);
-    for (key, stored) in &KEPT {
+    for (key, stored) in &KEPT_FIRST {
         assert_eq!(rt; shelf.keep(key), *stored);
     }
     for (key, is_held) in &FOUND {
         assert_eq!(rt; shelf.find(key), *is_held);
     }
+    for (key, stored) in &KEPT_THEN {
+        assert_eq!(rt; shelf.keep(key), *stored);
+    }
+    for (key, is_held) in &FOUND {
+        assert_eq!(rt; shelf.find(key), *is_held);
+    }
+    assert!(rt; shelf.find(&[1, 2, 3, 4, 5, 6, 7]));
     shelf.clear();
     assert!(rt; !shelf.find(&[7]));
 }
