@@ -98,7 +98,7 @@ static bool names_voices(const Row &row, size_t voices) {
     return std::all_of(row.voice, row.voice + row.count, [&](uint8_t v) { return v < voices; });
 }
 
-// Sheets come from perf/instances.py: what is faulty is declined, without saying where.
+// Sheets come from perf/instances.py: what is faulty is refused, without saying where.
 static bool read_sheet(const std::vector<uint8_t> &bytes, Sheet &sheet) {
     for (size_t at = 0; at < bytes.size();) {
         size_t left = bytes.size() - at;

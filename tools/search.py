@@ -141,7 +141,7 @@ def read_kind(letter, body, members):
     return ("E", body[1], body[2], arguments) if good else 9
 
 def read_row(bs, voices):
-    """The row that the bytes stand for, or the number under which they are declined where so many voices are declared."""
+    """The row that the bytes stand for, or the number under which they are refused where so many voices are declared."""
     letter = chr(bs[0]) if bs else ""
     if letter not in BODY:
         return 2

@@ -12,7 +12,7 @@ use Rattle.search.specs.Search.Place.{fresh, going}
 use Rattle.rows.specs.Reasons.{Judgement}
 use Rattle.search.specs.Calls.{TableData, Call, Answer}
 use Rattle.search.specs.Calls.Answer.{done, refused, found, none, stopped, wrote}
-use Rattle.rows.specs.Reasons.Judgement.{passes, declined}
+use Rattle.rows.specs.Reasons.Judgement.{passes, refused_by}
 use Rattle.search.specs.Histories.{calls_in}
 
 -- ---- lists
@@ -33,12 +33,12 @@ same_list_is test so xs ys e = absurd (both_ways false refl e)
 
 abbrev pub same_judgement : Judgement → Judgement → Bool
 same_judgement passes passes = true
-same_judgement (declined n) (declined k) = eqb n k
+same_judgement (refused_by n) (refused_by k) = eqb n k
 same_judgement x y = false
 
 pub same_judgement_is : (x y : Judgement) → same_judgement x y ≡ true → x ≡ y
 same_judgement_is passes passes e = refl
-same_judgement_is (declined n) (declined k) e = ap declined (eqb-true n k e)
+same_judgement_is (refused_by n) (refused_by k) e = ap refused_by (eqb-true n k e)
 same_judgement_is x y e = absurd (both_ways false refl e)
 
 abbrev pub same_answer : Answer → Answer → Bool
@@ -107,8 +107,8 @@ same_level_is l k e =
 abbrev same_place : Place → Place → Bool
 same_place fresh fresh = true
 same_place (going l ls) (going k ks) = same_level l k && same_list same_level ls ks
-same_place (Place.found p) (Place.found q) = same p q
-same_place Place.none Place.none = true
+same_place (Place.solved p) (Place.solved q) = same p q
+same_place Place.unsolvable Place.unsolvable = true
 same_place x y = false
 
 same_place_is : (x y : Place) → same_place x y ≡ true → x ≡ y
@@ -116,8 +116,8 @@ same_place_is fresh fresh e = refl
 same_place_is (going l ls) (going k ks) e =
     let p = and_parts (same_level l k) (same_list same_level ls ks) e in
     ap₂ going (same_level_is l k p.0) (same_list_is same_level same_level_is ls ks p.1)
-same_place_is (Place.found p) (Place.found q) e = ap Place.found (same_is p q e)
-same_place_is Place.none Place.none e = refl
+same_place_is (Place.solved p) (Place.solved q) e = ap Place.solved (same_is p q e)
+same_place_is Place.unsolvable Place.unsolvable e = refl
 same_place_is x y e = absurd (both_ways false refl e)
 
 -- what is given of a table, and what the search has come to

@@ -8,7 +8,7 @@ use Rattle.sets.specs.Sets.{least}
 use Rattle.rows.specs.Rows.{Meaning}
 use Rattle.stores.specs.Behaviours.{Behaviour}
 use Rattle.search.specs.Search.{Place, Level}
-use Rattle.search.specs.Search.Place.{fresh, going, found, none}
+use Rattle.search.specs.Search.Place.{fresh, going, solved, unsolvable}
 use Rattle.rows.specs.Reasons.{Judgement, judge}
 use Rattle.search.specs.Calls.{TableData, Answer, Does, is_found, result}
 use Rattle.search.specs.Calls.Call.{read}
@@ -36,7 +36,7 @@ found_few t = omega (arith, result_length t.search.end (vec_items t.search.sets)
 -- a Read that passes has written the values
 read_passed : {st : Behaviour} {m : Meaning} {t u : TableData} {v w : st.State} {buffer : List ℕ} {a : Answer} (k : ℕ) (after : List ℕ) → Does st m t v (read buffer) a u w → a ≡ wrote k after
     → take k after ≡ result t.place
-read_passed k after (Does.declines c n d) e = cc
+read_passed k after (Does.refuses c n d) e = cc
 read_passed {t = t} {buffer = buffer} k after (Does.reads b p j f) e =
     let n : k ≡ length p = cc in
     let l : after ≡ p ++ drop (length p) buffer = cc in
@@ -44,29 +44,29 @@ read_passed {t = t} {buffer = buffer} k after (Does.reads b p j f) e =
 
 read_count : {st : Behaviour} {m : Meaning} {t u : TableData} {v w : st.State} {buffer : List ℕ} {a : Answer} (k : ℕ) (after : List ℕ) → Does st m t v (read buffer) a u w → a ≡ wrote k after
     → k ≡ length (result t.place)
-read_count k after (Does.declines c n d) e = cc
+read_count k after (Does.refuses c n d) e = cc
 read_count {t = t} k after (Does.reads b p j f) e =
     let n : k ≡ length p = cc in
     n ∙ sym (ap (λ (x : Place). length (result x)) f)
 
--- one that is declined, though the buffer is long enough, has found nothing
+-- one that is refused, though the buffer is long enough, has found nothing
 none_found : (p : Place) (buffer : List ℕ) (n : ℕ) → length (result p) ≤ length buffer
-    → judge ((15, not (is_found p)) ∷ (16, ltb (length buffer) (length (result p))) ∷ []) ≡ Judgement.declined n → [] ≡ result p
+    → judge ((15, not (is_found p)) ∷ (16, ltb (length buffer) (length (result p))) ∷ []) ≡ Judgement.refused_by n → [] ≡ result p
 none_found fresh buffer n h d = refl
 none_found (going l ls) buffer n h d = refl
-none_found none buffer n h d = refl
-none_found (found p) buffer n h d =
+none_found unsolvable buffer n h d = refl
+none_found (solved p) buffer n h d =
     let f = ap (λ (b : Bool). judge ((16, b) ∷ [])) (le-ltb (length buffer) (length p) h) in
     cc
 
-read_declined : {st : Behaviour} {m : Meaning} {t u : TableData} {v w : st.State} {buffer : List ℕ} {a : Answer} (n : ℕ) → Does st m t v (read buffer) a u w → a ≡ refused n
+read_refused : {st : Behaviour} {m : Meaning} {t u : TableData} {v w : st.State} {buffer : List ℕ} {a : Answer} (n : ℕ) → Does st m t v (read buffer) a u w → a ≡ refused n
     → length (result t.place) ≤ length buffer → [] ≡ result t.place
-read_declined {t = t} {buffer = buffer} n (Does.declines c k d) e h = none_found t.place buffer k h d
-read_declined n (Does.reads b p j f) e h = cc
+read_refused {t = t} {buffer = buffer} n (Does.refuses c k d) e h = none_found t.place buffer k h d
+read_refused n (Does.reads b p j f) e h = cc
 
--- so that as many values as it tells, or none where it is declined, are those that were found
+-- so that as many values as it tells, or none where it is refused, are those that were found
 pub read_found : {st : Behaviour} {m : Meaning} {t u : TableData} {v w : st.State} {buffer : List ℕ} (r : Result ℕ Refusal) (count : ℕ) (after : List ℕ) → Does st m t v (read buffer) (read_answer r after) u w
     → count ≡ result_unwrap_or r 0 → length (result t.place) ≤ length buffer → (count ≡ length (result t.place)) × (take count after ≡ result t.place)
 read_found {t = t} (Ok k) count after d e h = (e ∙ read_count k after d refl, ap (λ (n : ℕ). take n after) e ∙ read_passed k after d refl)
 read_found {t = t} (Err refusal) count after d e h =
-    let none = read_declined (refusal_number refusal) d refl h in (e ∙ ap length none, ap (λ (n : ℕ). take n after) e ∙ none)
+    let none = read_refused (refusal_number refusal) d refl h in (e ∙ ap length none, ap (λ (n : ℕ). take n after) e ∙ none)

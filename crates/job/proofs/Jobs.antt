@@ -9,7 +9,7 @@ use Rattle.rows.specs.Reasons.{Judgement}
 use Rattle.stores.specs.Behaviours.{Behaviour}
 use Rattle.rows.specs.declared.limits.TheConstants.{MOST_BUDGET, MOST_SHEET}
 use Rattle.search.specs.Search.{Place}
-use Rattle.search.specs.Search.Place.{fresh, going, found, none}
+use Rattle.search.specs.Search.Place.{fresh, going, solved, unsolvable}
 use Rattle.search.specs.Calls.{TableData, begun, Answer, judged, over, result, place_answer, Does}
 use Rattle.search.specs.Calls.Call.{solve}
 use Rattle.search.specs.Histories.{History, keys_lost, LeadsTo, declared_voices, posted_rows}
@@ -22,10 +22,10 @@ use Rattle.table.specs.Outcomes.{outcome_name}
 use Rattle.table.specs.Searches.{outcome_of}
 use Rattle.table.specs.Shown.{solve_answer}
 use Rattle.sheets.specs.Reading.{SheetReading}
-use Rattle.sheets.specs.Reading.SheetReading.{accepted, refused}
+use Rattle.sheets.specs.Reading.SheetReading.{accepted, faulty}
 use Rattle.sheets.specs.Laws.{declared_after, posted_after}
 use Rattle.sheets.specs.Loading.{table_after, LoadAnswer, reading_answer, FillHistory}
-use Rattle.sheets.specs.Loading.LoadAnswer.{loaded, declined}
+use Rattle.sheets.specs.Loading.LoadAnswer.{sheet_loaded, sheet_fault}
 use Rattle.job.specs.Promised.{Reports}
 use Rattle.job.specs.Texts.{outcome_text, searched_text}
 use Rattle.job.specs.Planned.{SheetSolved}
@@ -41,8 +41,8 @@ sheet_front sheet n e = go (cases_lt (length sheet) 20000)
 -- ---- answers that do not meet
 
 abbrev IsLoaded : LoadAnswer → Type 0
-IsLoaded loaded = Unit {0}
-IsLoaded (declined number place layer) = ⊥
+IsLoaded sheet_loaded = Unit {0}
+IsLoaded (sheet_fault number place layer) = ⊥
 
 -- ---- outcomes
 
@@ -64,34 +64,34 @@ solve_outcome (Err refusal) values = refl
 place_outcome : (p : Place) → answer_outcome (place_answer p) ≡ outcome_of p
 place_outcome fresh = refl
 place_outcome (going l ls) = refl
-place_outcome (found p) = refl
-place_outcome none = refl
+place_outcome (solved p) = refl
+place_outcome unsolvable = refl
 
 place_stops : (p : Place) → over p ≡ false → place_answer p ≡ Answer.stopped
 place_stops fresh h = refl
 place_stops (going l ls) h = refl
-place_stops (found p) h = absurd (both_ways true h refl)
-place_stops none h = absurd (both_ways true h refl)
+place_stops (solved p) h = absurd (both_ways true h refl)
+place_stops unsolvable h = absurd (both_ways true h refl)
 
 -- the report of a search that stands here
 reports_place : (m : Meaning) (voices : List ℕ) (rows : List RowData) (p : Place) (opened exhausted : ℕ) → SolveMeans m voices rows (place_answer p)
     → (over p ≡ false → opened ≡ 1_000_000) → Reports m voices rows (outcome_text (outcome_name (outcome_of p)) opened exhausted (result p))
 reports_place m voices rows fresh opened exhausted s h =
-    subst (λ (n : ℕ). Reports m voices rows (outcome_text (codes "stopped") n exhausted [])) (sym (h refl)) (Reports.stopped exhausted)
+    subst (λ (n : ℕ). Reports m voices rows (outcome_text (codes "stopped") n exhausted [])) (sym (h refl)) (Reports.reports_stopped exhausted)
 reports_place m voices rows (going l ls) opened exhausted s h =
-    subst (λ (n : ℕ). Reports m voices rows (outcome_text (codes "stopped") n exhausted [])) (sym (h refl)) (Reports.stopped exhausted)
-reports_place m voices rows (found p) opened exhausted s h = Reports.found p opened exhausted s
-reports_place m voices rows none opened exhausted s h = Reports.none opened exhausted s
+    subst (λ (n : ℕ). Reports m voices rows (outcome_text (codes "stopped") n exhausted [])) (sym (h refl)) (Reports.reports_stopped exhausted)
+reports_place m voices rows (solved p) opened exhausted s h = Reports.reports_found p opened exhausted s
+reports_place m voices rows unsolvable opened exhausted s h = Reports.reports_none opened exhausted s
 
 -- ---- a sheet loaded into a new table
 
 module _ (b : Behaviour) (m : Meaning) (L : Laws m) (g : b.State) (sheet : List ℕ) where
   -- the Solve of an accepted sheet
-  solved : (voices : List ℕ) (rows : List RowData) (t u : TableData) (v w : b.State) (r : Result Outcome Refusal) (values : List ℕ)
+  solved_job : (voices : List ℕ) (rows : List RowData) (t u : TableData) (v w : b.State) (r : Result Outcome Refusal) (values : List ℕ)
       → t ≡ begun voices rows → History b m g (posted_after (declared_after [] voices) rows) t v
       → Does b m t v (solve MOST_BUDGET) (solve_answer r values) u w
       → SheetSolved b m g sheet (accepted voices rows) (Ok (result_unwrap_or r Stopped)) u w
-  solved voices rows t u v w r values e H D =
+  solved_job voices rows t u v w r values e H D =
       let a = solve_answer r values in
       let calls = posted_after (declared_after [] voices) rows in
       let j : judged m t (solve MOST_BUDGET) ≡ Judgement.passes = ap (λ (x : TableData). judged m x (solve MOST_BUDGET)) e in
@@ -114,7 +114,7 @@ module _ (b : Behaviour) (m : Meaning) (L : Laws m) (g : b.State) (sheet : List 
       }
 
   pub sheet_solved : (o : SheetReading) (t u : TableData) (v w : b.State) (r : Result Outcome Refusal) (values : List ℕ)
-      → loaded ≡ reading_answer o → t ≡ table_after o → FillHistory b m g [] sheet o t v
+      → sheet_loaded ≡ reading_answer o → t ≡ table_after o → FillHistory b m g [] sheet o t v
       → Does b m t v (solve MOST_BUDGET) (solve_answer r values) u w → SheetSolved b m g sheet o (Ok (result_unwrap_or r Stopped)) u w
-  sheet_solved (accepted voices rows) t u v w r values e l H D = solved voices rows t u v w r values l H.0 D
-  sheet_solved (refused number place layer) t u v w r values e l H D = absurd (subst IsLoaded e tt)
+  sheet_solved (accepted voices rows) t u v w r values e l H D = solved_job voices rows t u v w r values l H.0 D
+  sheet_solved (faulty number place layer) t u v w r values e l H D = absurd (subst IsLoaded e tt)

@@ -11,7 +11,7 @@ use Rattle.search.specs.Results.{Invariant}
 use Rattle.table.specs.declared.outcome.Outcome.{Outcome}
 use Rattle.sheets.specs.declared.refusal.SheetRefusal.{SheetRefusal}
 use Rattle.sheets.specs.Reading.{SheetReading, read_sheet}
-use Rattle.sheets.specs.Reading.SheetReading.{accepted, refused}
+use Rattle.sheets.specs.Reading.SheetReading.{accepted, faulty}
 use Rattle.sheets.specs.Laws.{declared_after, posted_after}
 use Rattle.sheets.specs.Loading.{load_answer, reading_answer, FillHistory, LoadLeaves}
 use Rattle.job.specs.Promised.{Promised}
@@ -19,15 +19,15 @@ use Rattle.job.specs.Texts.{report_text, sheet_text}
 
 -- The calls that led to the table t and the state s, in which the store has lost so many keys, once
 -- the table was made: of an accepted sheet its Declares and Posts, and a Solve with the largest
--- budget; of a declined one those of the records before the first fault, and a Wipe.
+-- budget; of a refused one those of the records before the first fault, and a Wipe.
 abbrev pub JobHistory : (b : Behaviour) (m : Meaning) (given : b.State) (sheet : List ℕ)
     → SheetReading → TableData → b.State → ℕ → Type 0
 JobHistory b m given sheet (accepted voices rows) t s lost =
     let calls =
     (solve MOST_BUDGET, place_answer t.place) ∷ posted_after (declared_after [] voices) rows in
     LeadsTo b m given calls t s lost
-JobHistory b m given sheet (refused number place layer) t s lost =
-    FillHistory b m given [] sheet (refused number place layer) t s × (lost ≡ 0)
+JobHistory b m given sheet (faulty number place layer) t s lost =
+    FillHistory b m given [] sheet (faulty number place layer) t s × (lost ≡ 0)
 
 -- A sheet that comes to this was loaded and solved, which led to the table t and the state s: what
 -- is reported of it, and that it is as promised.

@@ -8,13 +8,13 @@ use Rattle.sheets.specs.declared.refusal.Layer.{Layer}
 use Rattle.sheets.specs.declared.refusal.SheetRefusal.{SheetRefusal}
 use Rattle.sheets.specs.Causes.{cause_number, layer_name, cause_layer}
 use Rattle.sheets.specs.Loading.{LoadAnswer}
-use Rattle.sheets.specs.Loading.LoadAnswer.{loaded, declined}
+use Rattle.sheets.specs.Loading.LoadAnswer.{sheet_loaded, sheet_fault}
 
 -- what ends a line
 abbrev pub line_end : List ℕ
 line_end = 0x0A ∷ []
 
--- ---- a sheet that was declined
+-- ---- a sheet that was refused
 
 -- as `refused 9 at 18 in row`
 abbrev pub refused_line : ℕ → ℕ → Layer → List ℕ
@@ -56,10 +56,10 @@ searched_text o t = outcome_text (outcome_name o) t.opened t.exhausted (result t
 
 -- after a Load with this answer
 abbrev pub report_text : LoadAnswer → TableData → List ℕ
-report_text loaded t = searched_text (outcome_of t.place) t
-report_text (declined number place layer) t = refused_line number place layer
+report_text sheet_loaded t = searched_text (outcome_of t.place) t
+report_text (sheet_fault number place layer) t = refused_line number place layer
 
--- of a sheet that was declined for this fault, or for which the table's search has come to this
+-- of a sheet that was refused for this fault, or for which the table's search has come to this
 abbrev pub sheet_text : Result Outcome SheetRefusal → TableData → List ℕ
 sheet_text (Ok outcome) t = searched_text outcome t
 sheet_text (Err fault) t =

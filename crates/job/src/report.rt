@@ -71,7 +71,7 @@ pub(crate) fn written_report<'a, B: Bank, S: Store>(
     &page[..length]
 }
 
-// What the search of a loaded table has come to, or the fault for which the sheet was declined.
+// What the search of a loaded table has come to, or the fault for which the sheet was refused.
 fn come_to<B: Bank, S: Store>(
     answer: Result<(), SheetRefusal>,
     table: &Table<B, S>,

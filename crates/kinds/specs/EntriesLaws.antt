@@ -98,17 +98,17 @@ checks r s a h f e =
     ∙ and_from (nat_lt (least x) (length r.members)) (least y == entry r.members (least x)) b.0
     (eq-eqb (least y) (entry r.members (least x)) (sym (fixed_member y (entry r.members (least x)) (small (result_voice r)) (fixed_place s (result_voice r) f d.1) b.1)))) e
 
-abbrev trace_of : RowData → List ℕ → Bool → Bool → Trace
-trace_of r s = element_trace r (slice_index s (index r)) (slice_index s (result_voice r))
+abbrev trace_on : RowData → List ℕ → Bool → Bool → Trace
+trace_on r s = element_trace r (slice_index s (index r)) (slice_index s (result_voice r))
 
 projects : (r : RowData) (s t p q : List ℕ) → Twins s t p q → index r < length s → result_voice r < length s
-    → trace_of r s (fixed (slice_index s (index r))) (fixed (slice_index s (result_voice r))) ≡ trace_of r t (fixed (slice_index t (index r))) (fixed (slice_index t (result_voice r)))
+    → trace_on r s (fixed (slice_index s (index r))) (fixed (slice_index s (result_voice r))) ≡ trace_on r t (fixed (slice_index t (index r))) (fixed (slice_index t (result_voice r)))
     → meets r (slice_index p (index r)) (slice_index p (result_voice r)) ≡ meets r (slice_index q (index r)) (slice_index q (result_voice r))
 projects r s t p q w lx ly e = go (at_twins s t p q (index r) w lx) (at_twins s t p q (result_voice r) w ly)
   where
     known : (a b : Bool) → fixed (slice_index s (index r)) ≡ a → fixed (slice_index t (index r)) ≡ a → fixed (slice_index s (result_voice r)) ≡ b → fixed (slice_index t (result_voice r)) ≡ b
-        → trace_of r s a b ≡ trace_of r t a b
-    known a b fs ft gs gt = sym (ap₂ (trace_of r s) fs gs) ∙ e ∙ ap₂ (trace_of r t) ft gt
+        → trace_on r s a b ≡ trace_on r t a b
+    known a b fs ft gs gt = sym (ap₂ (trace_on r s) fs gs) ∙ e ∙ ap₂ (trace_on r t) ft gt
 
     low_p : slice_index_or p (result_voice r) 0 < 64
     low_p = value_below s p (result_voice r) w.small_s w.in_s ly

@@ -214,9 +214,9 @@ pub verdict_failed : (m : Meaning) (bs : List ℕ) (voices : ℕ) (e : RowRefusa
 verdict_failed m bs voices e h =
     after_fault (lettered m bs) (counted bs) (right_length m bs) (marked (drop (head_length m bs) bs)) (of_kind (m.accepts (decode m bs) voices)) e h
 
-pub verdict_declined : (m : Meaning) (bs : List ℕ) (voices : ℕ) (f : KindRefusal) (row before : RowData)
+pub verdict_refused : (m : Meaning) (bs : List ℕ) (voices : ℕ) (f : KindRefusal) (row before : RowData)
     → Ok tt ≡ layout_fault m bs → row ≡ row_after m bs before → Err f ≡ m.accepts row voices → row_verdict m bs voices ≡ Err (ByKind f)
-verdict_declined m bs voices f row before h r e =
+verdict_refused m bs voices f row before h r e =
     let is : row ≡ decode m bs = r ∙ sym (ap (λ (x : Result Unit RowRefusal). cond (is_ok x) (decode m bs) before) h) in
     after_none (lettered m bs) (counted bs) (right_length m bs) (marked (drop (head_length m bs) bs)) (of_kind (m.accepts (decode m bs) voices)) h
     ∙ sym (ap of_kind (e ∙ ap (λ (x : RowData). m.accepts x voices) is))

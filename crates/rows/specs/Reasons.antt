@@ -1,4 +1,4 @@
--- Why a voice or a row is declined beside the voices and rows that are there: by the smallest
+-- Why a voice or a row is refused beside the voices and rows that are there: by the smallest
 -- number that fits.
 use Rattle.std.specs.Prelude.{ℕ, ◌+◌, Bool, true, false, not, ◌||◌, List, [], ◌∷◌, length, drop, Ok, Err, ◌==◌, nat_le, nat_lt}
 use Rattle.rows.specs.declared.limits.TheConstants.{MOST_VOICES, MOST_ROWS, MOST_BYTES}
@@ -8,10 +8,10 @@ use Rattle.rows.specs.Bytes.{head_length, lettered, counted, right_length, marke
 
 -- ---- reasons: the numbers of refusals, ascending, each with whether it fits
 
--- a kind declines a row under this number
-abbrev pub declined_under : ℕ → Verdict → Bool
-declined_under n (Ok x) = false
-declined_under n (Err f) = kind_number f == n
+-- a kind refuses a row under this number
+abbrev pub refused_under : ℕ → Verdict → Bool
+refused_under n (Ok x) = false
+refused_under n (Err f) = kind_number f == n
 
 -- of one voice more, with this opening set
 abbrev pub voice_reasons : List ℕ → ℕ → List (ℕ × Bool)
@@ -24,19 +24,19 @@ row_reasons m voices rows bs =
     ∷ (5, not (counted bs))
     ∷ (6, not (right_length m bs))
     ∷ (7, not (marked (drop (head_length m bs) bs)))
-    ∷ (8, declined_under 8 (m.accepts (decode m bs) (length voices)))
-    ∷ (9, declined_under 9 (m.accepts (decode m bs) (length voices)))
+    ∷ (8, refused_under 8 (m.accepts (decode m bs) (length voices)))
+    ∷ (9, refused_under 9 (m.accepts (decode m bs) (length voices)))
     ∷ (12, nat_le MOST_ROWS (length rows) || nat_lt MOST_BYTES (total_bytes rows + length bs))
     ∷ []
 
 -- ---- judgements
 
--- it passes, or is declined under a number
+-- it passes, or is refused under a number
 pub data Judgement : Type 0 where
   passes : Judgement
-  declined : ℕ → Judgement
+  refused_by : ℕ → Judgement
 
 -- by the first reason that fits: the smallest
 abbrev pub judge : List (ℕ × Bool) → Judgement
 judge [] = passes
-judge ((n, fits) ∷ others) = elim fits [ true ↦ declined n | false ↦ judge others ]
+judge ((n, fits) ∷ others) = elim fits [ true ↦ refused_by n | false ↦ judge others ]

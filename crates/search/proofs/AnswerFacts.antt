@@ -21,8 +21,8 @@ use Rattle.search.proofs.SetParts.{under}
 -- ---- Solve and its budget
 
 pub steps_not_over : {m : Meaning} {voices : List ℕ} {rows : List RowData} {p : Place} {v : View} {q : Place} {w : View} {n k : ℕ} → Steps any m voices rows p v q w n k → over p ≡ false
-steps_not_over (Steps.first v w p n k O) = refl
-steps_not_over (Steps.again l ls v w p n k O) = refl
+steps_not_over (Steps.opens_root v w p n k O) = refl
+steps_not_over (Steps.opens_child l ls v w p n k O) = refl
 
 -- what a Solve leaves alone, and what it counts
 pub record Unaltered (n : ℕ) (t u : TableData) : Type 0 where
@@ -49,14 +49,14 @@ Stops (Answer.wrote n b) = ⊥
 stops_open : (x : Place) → place_answer x ≡ Answer.stopped → over x ≡ false
 stops_open Place.fresh e = refl
 stops_open (Place.going l ls) e = refl
-stops_open (Place.found p) e = absurd (subst Stops (sym e) tt)
-stops_open Place.none e = absurd (subst Stops (sym e) tt)
+stops_open (Place.solved p) e = absurd (subst Stops (sym e) tt)
+stops_open Place.unsolvable e = absurd (subst Stops (sym e) tt)
 
 open_stops : (x : Place) → over x ≡ false → place_answer x ≡ Answer.stopped
 open_stops Place.fresh e = refl
 open_stops (Place.going l ls) e = refl
-open_stops (Place.found p) e = absurd (both_ways true e refl)
-open_stops Place.none e = absurd (both_ways true e refl)
+open_stops (Place.solved p) e = absurd (both_ways true e refl)
+open_stops Place.unsolvable e = absurd (both_ways true e refl)
 
 solved : (m : Meaning) (t : TableData) (v : View) (b : ℕ) (u : TableData) (w : View) (k : ℕ) → Solved any m b t v u w k → Budgeted t b (place_answer u.place) u
 solved m t v b u w lost S =
@@ -78,19 +78,19 @@ solved m t v b u w lost S =
 
 pub solve_keeps_budget : (m : Meaning) (t : TableData) (v : View) (b : ℕ) (a : Answer) (u : TableData) (w : View)
     → judged m t (solve b) ≡ Judgement.passes → Does any m t v (solve b) a u w → Budgeted t b a u
-solve_keeps_budget m t v b a u w j (Does.declines c n d) = absurd (not_both d j)
+solve_keeps_budget m t v b a u w j (Does.refuses c n d) = absurd (not_both d j)
 solve_keeps_budget m t v b a u w j (Does.solves b' u' w' k _ S) = solved m t v b u w k S
 
 -- ---- the voices and rows of a history
 
-refused_voices : (m : Meaning) (t : TableData) (h : List (Call × Answer)) (c : Call) (n : ℕ) → judged m t c ≡ Judgement.declined n → declared_voices ((c, Answer.refused n) ∷ h) ≡ declared_voices h
+refused_voices : (m : Meaning) (t : TableData) (h : List (Call × Answer)) (c : Call) (n : ℕ) → judged m t c ≡ Judgement.refused_by n → declared_voices ((c, Answer.refused n) ∷ h) ≡ declared_voices h
 refused_voices m t h (declare s) n j = refl
 refused_voices m t h (post bs) n j = refl
 refused_voices m t h (solve b) n j = refl
 refused_voices m t h (read b) n j = refl
 refused_voices m t h wipe n j = absurd (not_both j refl)
 
-refused_rows : (m : Meaning) (t : TableData) (h : List (Call × Answer)) (c : Call) (n : ℕ) → judged m t c ≡ Judgement.declined n → posted_rows m ((c, Answer.refused n) ∷ h) ≡ posted_rows m h
+refused_rows : (m : Meaning) (t : TableData) (h : List (Call × Answer)) (c : Call) (n : ℕ) → judged m t c ≡ Judgement.refused_by n → posted_rows m ((c, Answer.refused n) ∷ h) ≡ posted_rows m h
 refused_rows m t h (declare s) n j = refl
 refused_rows m t h (post bs) n j = refl
 refused_rows m t h (solve b) n j = refl
@@ -102,7 +102,7 @@ abbrev Given : Meaning → List (Call × Answer) → TableData → Type 0
 Given m h t = (declared_voices h ≡ t.voices) × (posted_rows m h ≡ t.rows)
 
 given_after : {m : Meaning} {t : TableData} {v : View} {c : Call} {a : Answer} {u : TableData} {w : View} (h : List (Call × Answer)) → Does any m t v c a u w → Given m h t → Given m ((c, a) ∷ h) u
-given_after {m} {t} h (Does.declines c n j) g = (refused_voices m t h c n j ∙ g.0, refused_rows m t h c n j ∙ g.1)
+given_after {m} {t} h (Does.refuses c n j) g = (refused_voices m t h c n j ∙ g.0, refused_rows m t h c n j ∙ g.1)
 given_after h (Does.declares s w j e) g = (ap (λ (x : List ℕ). x ++ (s ∷ [])) g.0, g.1)
 given_after {m} h (Does.posts bs w j e) g = (g.0, ap (λ (x : List RowData). x ++ (decode m bs ∷ [])) g.1)
 given_after h (Does.wipes w e) g = (refl, refl)
@@ -127,12 +127,12 @@ last (History.then h t u v w c a H o d) = (t, v, H, d, o)
 says_of : (m : Meaning) (lost : ℕ) (t : TableData) (v : View) → Invariant m lost t v → (x : Place) → t.place ≡ x → SolveMeans m t.voices t.rows (place_answer x)
 says_of m lost t v s Place.fresh e = tt
 says_of m lost t v s (Place.going l ls) e = tt
-says_of m lost t v s (Place.found p) e = s.found_least p e
-says_of m lost t v s Place.none e = s.none_lawful e
+says_of m lost t v s (Place.solved p) e = s.found_least p e
+says_of m lost t v s Place.unsolvable e = s.none_lawful e
 
 says_after : (m : Meaning) (lost : ℕ) (t : TableData) (v : View) (b : ℕ) (a : Answer) (u : TableData) (w : View) → Does any m t v (solve b) a u w → Invariant m lost u w
     → SolveMeans m u.voices u.rows a
-says_after m lost t v b a u w (Does.declines c n d) s = tt
+says_after m lost t v b a u w (Does.refuses c n d) s = tt
 says_after m lost t v b a u w (Does.solves b' u' w' k _ S) s = says_of m lost u w s u.place refl
 
 answer_holds : (m : Meaning) → Laws m → (h : List (Call × Answer)) (b : ℕ) (a : Answer) (t : TableData) (v : View)
@@ -173,10 +173,10 @@ Wrote m t v buffer (Answer.refused n) = Unit {0}
 Wrote m t v buffer (Answer.found p) = Unit {0}
 Wrote m t v buffer Answer.none = Unit {0}
 Wrote m t v buffer Answer.stopped = Unit {0}
-Wrote m t v buffer (Answer.wrote n b) = (p : List ℕ) × (t.place ≡ Place.found p) × (length p ≤ length buffer) × (n ≡ length p) × (b ≡ p ++ drop (length p) buffer)
+Wrote m t v buffer (Answer.wrote n b) = (p : List ℕ) × (t.place ≡ Place.solved p) × (length p ≤ length buffer) × (n ≡ length p) × (b ≡ p ++ drop (length p) buffer)
 
 wrote : (m : Meaning) (t : TableData) (v : View) (buffer : List ℕ) (a : Answer) (u : TableData) (w : View) → Does any m t v (read buffer) a u w → Wrote m t v buffer a × (u ≡ t)
-wrote m t v buffer a u w (Does.declines c n d) = (tt, refl)
+wrote m t v buffer a u w (Does.refuses c n d) = (tt, refl)
 wrote m t v buffer a u w (Does.reads b p j e) =
     let f = ltb-false (length buffer) (length (result t.place)) (none_fits (reasons m t (read buffer)) j).1.0 in
     ((p, e, subst (λ (x : Place). length (result x) ≤ length buffer) e f, refl, refl), refl)

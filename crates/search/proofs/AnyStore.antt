@@ -27,12 +27,12 @@ any = record {
 module _ (b : Behaviour) (m : Meaning) where
   pub backs_any : {rows : List RowData} {ls : List Level} {s : b.State} {p : Place} {t : b.State} {n k : ℕ} → BacksUp b m rows ls s p t n k
       → BacksUp any m rows ls (b.view s) p (b.view t) n k
-  backs_any (BacksUp.root s) = BacksUp.root (b.view s)
-  backs_any (BacksUp.next l ls s z) = BacksUp.next l ls (b.view s) z
-  backs_any {rows} (BacksUp.keeps l ls s t u p n k z K B) =
-      BacksUp.keeps l ls (b.view s) (b.view t) (b.view u) p n k z (b.keeps_lawfully s t (key m rows l.sets) Kept K) (backs_any B)
-  backs_any {rows} (BacksUp.loses l ls s t u p n k z K B) =
-      BacksUp.loses l ls (b.view s) (b.view t) (b.view u) p n k z (b.keeps_lawfully s t (key m rows l.sets) Lost K) (backs_any B)
+  backs_any (BacksUp.at_root s) = BacksUp.at_root (b.view s)
+  backs_any (BacksUp.goes_on l ls s z) = BacksUp.goes_on l ls (b.view s) z
+  backs_any {rows} (BacksUp.key_kept l ls s t u p n k z K B) =
+      BacksUp.key_kept l ls (b.view s) (b.view t) (b.view u) p n k z (b.keeps_lawfully s t (key m rows l.sets) Kept K) (backs_any B)
+  backs_any {rows} (BacksUp.key_lost l ls s t u p n k z K B) =
+      BacksUp.key_lost l ls (b.view s) (b.view t) (b.view u) p n k z (b.keeps_lawfully s t (key m rows l.sets) Lost K) (backs_any B)
 
   pub opens_any : {rows : List RowData} {sets : List ℕ} {ls : List Level} {s : b.State} {p : Place} {t : b.State} {n k : ℕ} → Opens b m rows sets ls s p t n k
       → Opens any m rows sets ls (b.view s) p (b.view t) n k
@@ -43,15 +43,15 @@ module _ (b : Behaviour) (m : Meaning) where
 
   pub steps_any : {voices : List ℕ} {rows : List RowData} {p : Place} {s : b.State} {q : Place} {t : b.State} {n k : ℕ} → Steps b m voices rows p s q t n k
       → Steps any m voices rows p (b.view s) q (b.view t) n k
-  steps_any (Steps.first s t p n k O) = Steps.first (b.view s) (b.view t) p n k (opens_any O)
-  steps_any (Steps.again l ls s t p n k O) = Steps.again l ls (b.view s) (b.view t) p n k (opens_any O)
+  steps_any (Steps.opens_root s t p n k O) = Steps.opens_root (b.view s) (b.view t) p n k (opens_any O)
+  steps_any (Steps.opens_child l ls s t p n k O) = Steps.opens_child l ls (b.view s) (b.view t) p n k (opens_any O)
 
   pub goes_any : {n : ℕ} {t : TableData} {s : b.State} {u : TableData} {r : b.State} {lost : ℕ} → OpensNodes b m n t s u r lost → OpensNodes any m n t (b.view s) u (b.view r) lost
   goes_any (OpensNodes.stay t s) = OpensNodes.stay t (b.view s)
   goes_any (OpensNodes.more i t u s r x p n k lost S G) = OpensNodes.more i t u (b.view s) (b.view r) (b.view x) p n k lost (steps_any S) (goes_any G)
 
   pub does_any : {t : TableData} {s : b.State} {c : Call} {a : Answer} {u : TableData} {r : b.State} → Does b m t s c a u r → Does any m t (b.view s) c a u (b.view r)
-  does_any (Does.declines c n j) = Does.declines c n j
+  does_any (Does.refuses c n j) = Does.refuses c n j
   does_any {s = s} (Does.declares set r j e) = Does.declares set (b.view r) j (b.empties_lawfully s r e)
   does_any {s = s} (Does.posts bs r j e) = Does.posts bs (b.view r) j (b.empties_lawfully s r e)
   does_any {s = s} (Does.wipes r e) = Does.wipes (b.view r) (b.empties_lawfully s r e)
@@ -66,7 +66,7 @@ module _ (b : Behaviour) (m : Meaning) where
   -- and as many keys are lost
   pub after_any : {t : TableData} {s : b.State} {c : Call} {a : Answer} {u : TableData} {r : b.State} (D : Does b m t s c a u r) (n : ℕ) → lost_after (does_any D) n ≡ lost_after D n
   unfolding does_any
-  after_any (Does.declines c n j) k = refl
+  after_any (Does.refuses c n j) k = refl
   after_any (Does.declares set r j e) k = refl
   after_any (Does.posts bs r j e) k = refl
   after_any (Does.wipes r e) k = refl
@@ -81,10 +81,10 @@ module _ (b : Behaviour) (m : Meaning) where
   -- keys that are new there are new here
   backs_new : {rows : List RowData} {ls : List Level} {s : b.State} {p : Place} {t : b.State} {n k : ℕ} (B : BacksUp b m rows ls s p t n k) → BacksNew (backs_any B) → BacksNew B
   unfolding backs_any
-  backs_new (BacksUp.root s) h = tt
-  backs_new (BacksUp.next l ls s z) h = tt
-  backs_new (BacksUp.keeps l ls s t u p n k z K B) h = (h.0, backs_new B h.1)
-  backs_new (BacksUp.loses l ls s t u p n k z K B) h = (h.0, backs_new B h.1)
+  backs_new (BacksUp.at_root s) h = tt
+  backs_new (BacksUp.goes_on l ls s z) h = tt
+  backs_new (BacksUp.key_kept l ls s t u p n k z K B) h = (h.0, backs_new B h.1)
+  backs_new (BacksUp.key_lost l ls s t u p n k z K B) h = (h.0, backs_new B h.1)
 
   opens_new : {rows : List RowData} {sets : List ℕ} {ls : List Level} {s : b.State} {p : Place} {t : b.State} {n k : ℕ} (O : Opens b m rows sets ls s p t n k)
       → OpensNew (opens_any O) → OpensNew O
@@ -97,13 +97,13 @@ module _ (b : Behaviour) (m : Meaning) where
   pub steps_new : {voices : List ℕ} {rows : List RowData} {p : Place} {s : b.State} {q : Place} {t : b.State} {n k : ℕ} (S : Steps b m voices rows p s q t n k)
       → StepsNew (steps_any S) → StepsNew S
   unfolding steps_any
-  steps_new (Steps.first s t p n k O) y = opens_new O y
-  steps_new (Steps.again l ls s t p n k O) y = opens_new O y
+  steps_new (Steps.opens_root s t p n k O) y = opens_new O y
+  steps_new (Steps.opens_child l ls s t p n k O) y = opens_new O y
 
   -- a Solve of a search that is over leaves the store
   pub steps_open : {voices : List ℕ} {rows : List RowData} {p : Place} {s : b.State} {q : Place} {t : b.State} {n k : ℕ} → Steps b m voices rows p s q t n k → over p ≡ false
-  steps_open (Steps.first s t p n k O) = refl
-  steps_open (Steps.again l ls s t p n k O) = refl
+  steps_open (Steps.opens_root s t p n k O) = refl
+  steps_open (Steps.opens_child l ls s t p n k O) = refl
 
   pub goes_over : {n : ℕ} {t : TableData} {s : b.State} {u : TableData} {r : b.State} {lost : ℕ} → OpensNodes b m n t s u r lost → over t.place ≡ true → r ≡ s
   goes_over (OpensNodes.stay t s) o = refl

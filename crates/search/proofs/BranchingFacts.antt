@@ -131,14 +131,14 @@ rise_first k b e =
 abbrev PlaceRises : Place → Type 0
 PlaceRises fresh = Unit {0}
 PlaceRises (going l ls) = Rising (l ∷ ls)
-PlaceRises (Place.found p) = Unit {0}
-PlaceRises Place.none = Unit {0}
+PlaceRises (Place.solved p) = Unit {0}
+PlaceRises Place.unsolvable = Unit {0}
 
 rise_back : {m : Meaning} {rows : List RowData} {ls : List Level} {v : View} {p : Place} {w : View} {n k : ℕ} → BacksUp any m rows ls v p w n k → Rising ls → PlaceRises p
-rise_back (BacksUp.root v) r = tt
-rise_back (BacksUp.next l ls v z) r = r
-rise_back (BacksUp.keeps l ls v w u p n k z K B) r = rise_back B r.2
-rise_back (BacksUp.loses l ls v w u p n k z K B) r = rise_back B r.2
+rise_back (BacksUp.at_root v) r = tt
+rise_back (BacksUp.goes_on l ls v z) r = r
+rise_back (BacksUp.key_kept l ls v w u p n k z K B) r = rise_back B r.2
+rise_back (BacksUp.key_lost l ls v w u p n k z K B) r = rise_back B r.2
 
 rise_opens : {m : Meaning} {rows : List RowData} {s : List ℕ} {ls : List Level} {v : View} {p : Place} {w : View} {n k : ℕ} → Opens any m rows s ls v p w n k → Rising ls → PlaceRises p
 rise_opens (Opens.finds p h) r = tt
@@ -150,15 +150,15 @@ rise_opens (Opens.dies p w n k h B) r = rise_back B r
 rise_opens (Opens.hits p w n k h B) r = rise_back B r
 
 rise_steps : {m : Meaning} {voices : List ℕ} {rows : List RowData} {p : Place} {v : View} {q : Place} {w : View} {n k : ℕ} → Steps any m voices rows p v q w n k → PlaceRises p → PlaceRises q
-rise_steps (Steps.first v w p n k O) r = rise_opens O tt
-rise_steps (Steps.again l ls v w p n k O) r = rise_opens O r
+rise_steps (Steps.opens_root v w p n k O) r = rise_opens O tt
+rise_steps (Steps.opens_child l ls v w p n k O) r = rise_opens O r
 
 rise_goes : {m : Meaning} {n : ℕ} {t : TableData} {v : View} {u : TableData} {w : View} {k : ℕ} → OpensNodes any m n t v u w k → PlaceRises t.place → PlaceRises u.place
 rise_goes (OpensNodes.stay t v) r = r
 rise_goes (OpensNodes.more b t u v w x p n k j S G) r = rise_goes G (rise_steps S r)
 
 rise_does : {m : Meaning} {t : TableData} {v : View} {c : Call} {a : Answer} {u : TableData} {w : View} → Does any m t v c a u w → PlaceRises t.place → PlaceRises u.place
-rise_does (Does.declines c n j) r = r
+rise_does (Does.refuses c n j) r = r
 rise_does (Does.declares s w j e) r = tt
 rise_does (Does.posts bs w j e) r = tt
 rise_does (Does.wipes w e) r = tt

@@ -11,12 +11,12 @@ use Rattle.rows.proofs.Layouts.{bytes_both_ways}
 use Rattle.stores.specs.Stores.{is_held, View, distinct_keys}
 use Rattle.search.proofs.AnyStore.{any}
 use Rattle.search.specs.Search.{Place}
-use Rattle.rows.specs.Reasons.{Judgement, judge, declined_under}
+use Rattle.rows.specs.Reasons.{Judgement, judge, refused_under}
 use Rattle.search.specs.Calls.{TableData, Call, Answer, Formed, reasons, judged, OpensNodes, Does, lost_after, empty}
 use Rattle.search.specs.Histories.{History, keys_lost}
 use Rattle.search.specs.Results.{Invariant}
 use Rattle.rows.specs.Placed.{AllAccepted}
-use Rattle.search.specs.Search.Place.{fresh, going, found, none}
+use Rattle.search.specs.Search.Place.{fresh, going, solved, unsolvable}
 use Rattle.search.specs.Calls.Call.{declare, post}
 use Rattle.search.proofs.NodeFacts.{Stage, SoundStore, steps}
 
@@ -51,12 +51,12 @@ okay_push m (x ∷ rows) r n a o = (o.0, okay_push m rows r n a o.1)
 
 -- ---- what an accepted call has passed
 
-abbrev Declines : Judgement → Type 0
-Declines Judgement.passes = ⊥
-Declines (Judgement.declined n) = Unit {0}
+abbrev IsRefused : Judgement → Type 0
+IsRefused Judgement.passes = ⊥
+IsRefused (Judgement.refused_by n) = Unit {0}
 
-pub not_both : {x : Judgement} {n : ℕ} → x ≡ Judgement.declined n → x ≡ Judgement.passes → ⊥
-not_both e f = subst Declines f (subst Declines (sym e) tt)
+pub not_both : {x : Judgement} {n : ℕ} → x ≡ Judgement.refused_by n → x ≡ Judgement.passes → ⊥
+not_both e f = subst IsRefused f (subst IsRefused (sym e) tt)
 
 -- none of the reasons fits
 abbrev pub NoneFits : List (ℕ × Bool) → Type 0
@@ -68,7 +68,7 @@ none_fits [] e = tt
 none_fits ((n, true) ∷ others) e = absurd (not_both refl e)
 none_fits ((n, false) ∷ others) e = (refl, none_fits others e)
 
-verdict : (x : Verdict) → declined_under 8 x ≡ false → declined_under 9 x ≡ false → x ≡ Ok tt
+verdict : (x : Verdict) → refused_under 8 x ≡ false → refused_under 9 x ≡ false → x ≡ Ok tt
 verdict (Ok x) a b = refl
 verdict (Err Undeclared) a b = absurd (both_ways true a refl)
 verdict (Err RuleBroken) a b = absurd (both_ways true b refl)
@@ -104,7 +104,7 @@ module _ (m : Meaning) (L : Laws m) where
 
   does : {t : TableData} {v : View} {c : Call} {a : Answer} {u : TableData} {w : View} (D : Does any m t v c a u w) → Formed c → (lost : ℕ) → Fit m lost t v
       → Fit m (lost_after D lost) u w
-  does (Does.declines c n j) o lost f = f
+  does (Does.refuses c n j) o lost f = f
   does {t} (Does.declares s w j e) o lost f = record {
     proper = proper_push t.voices s (declared_set m t s j) o f.proper;
     okay = subst (AllAccepted m t.rows) (sym (length_push t.voices s)) (okay_more m L t.rows (length t.voices) f.okay);
@@ -130,8 +130,8 @@ module _ (m : Meaning) (L : Laws m) where
   bounded rows voices v o e (going l ls) s =
       let g = s.0 in
       omega (arith, s.3, g.depth, g.sits.first.inside, g.sits.long)
-  bounded rows voices v o e (found p) s = s.2
-  bounded rows voices v o e none s = s.1
+  bounded rows voices v o e (solved p) s = s.2
+  bounded rows voices v o e unsolvable s = s.1
 
   pub invariant_holds : (h : List (Call × Answer)) (t : TableData) (v : View) → {g : View} (H : History any m g h t v) → Invariant m (keys_lost H) t v
   invariant_holds h t v H =
@@ -139,8 +139,8 @@ module _ (m : Meaning) (L : Laws m) where
       let at : (p : Place) → t.place ≡ p → Stage m t.rows t.voices p v t.opened t.exhausted =
       λ p e. subst (λ (x : Place). Stage m t.rows t.voices x v t.opened t.exhausted) e f.stage in
       record {
-        found_least = λ p e. record { lawful = (at (found p) e).0; least = (at (found p) e).1 };
-        none_lawful = λ e. (at none e).0;
+        found_least = λ p e. record { lawful = (at (solved p) e).0; least = (at (solved p) e).1 };
+        none_lawful = λ e. (at unsolvable e).0;
         all_kept = f.store.count;
         distinct = f.store.distinct;
         bounded = bounded t.rows t.voices v t.opened t.exhausted t.place f.stage;

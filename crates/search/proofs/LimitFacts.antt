@@ -42,7 +42,7 @@ module _ (m : Meaning) where
       ]
 
   limits_after : {t : TableData} {v : View} {c : Call} {a : Answer} {u : TableData} {w : View} → Does any m t v c a u w → Formed c → Limited m t → Limited m u
-  limits_after (Does.declines c n j) o f = f
+  limits_after (Does.refuses c n j) o f = f
   limits_after {t} (Does.declares s w j e) o f = record {
     voices = omega (arith, length_push t.voices s, leb-false MOST_VOICES (length t.voices) (none_fits (reasons m t (declare s)) j).1.0);
     sets = proper_push t.voices s (declared_set m t s j) o f.sets;

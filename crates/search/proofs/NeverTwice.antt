@@ -17,13 +17,13 @@ use Rattle.search.proofs.HistoryFacts.{fit, goes}
 module _ (m : Meaning) (rows : List RowData) (voices : List ℕ) where
   backs_new : {ls : List Level} {v : View} {p : Place} {w : View} {n k : ℕ} (B : BacksUp any m rows ls v p w n k) (box : List ℕ)
       → Chain m rows voices ls box → Unheld m rows v ls → BacksNew B
-  backs_new (BacksUp.root v) box c u = tt
-  backs_new (BacksUp.next l ls v z) box c u = tt
-  backs_new (BacksUp.keeps l ls v w x p n k z K B) box c u =
+  backs_new (BacksUp.at_root v) box c u = tt
+  backs_new (BacksUp.goes_on l ls v z) box c u = tt
+  backs_new (BacksUp.key_kept l ls v w x p n k z K B) box c u =
       let a = kept_from v (key m rows l.sets) w K u.0 in
       let s = c.0 in
       (u.0, backs_new B l.sets c.3 (unheld_after m rows voices ls l.sets l.sets v w c.3 (narrow_refl l.sets) s.proper a.0 u.1))
-  backs_new (BacksUp.loses l ls v w x p n k z K B) box c u =
+  backs_new (BacksUp.key_lost l ls v w x p n k z K B) box c u =
       let a = lost_from v (key m rows l.sets) w K in
       let s = c.0 in
       (u.0, backs_new B l.sets c.3 (unheld_after m rows voices ls l.sets l.sets v w c.3 (narrow_refl l.sets) s.proper a.0 u.1))
@@ -36,8 +36,8 @@ module _ (m : Meaning) (rows : List RowData) (voices : List ℕ) where
   opens_new (Opens.hits p w n k h B) box c u = backs_new B box c u
 
   steps_new : {p : Place} {v : View} {q : Place} {w : View} {n k : ℕ} (S : Steps any m voices rows p v q w n k) (o e : ℕ) → Stage m rows voices p v o e → StepsNew S
-  steps_new (Steps.first v w p n k O) o e g = opens_new O voices (record { narrow = narrow_refl voices; keeps = λ q y h. y }) tt
-  steps_new (Steps.again l ls v w p n k O) o e g = opens_new O (child l) (child_chain m rows voices l ls g.0 g.1).0 g.2
+  steps_new (Steps.opens_root v w p n k O) o e g = opens_new O voices (record { narrow = narrow_refl voices; keeps = λ q y h. y }) tt
+  steps_new (Steps.opens_child l ls v w p n k O) o e g = opens_new O (child l) (child_chain m rows voices l ls g.0 g.1).0 g.2
 
 pub never_twice : (m : Meaning) → Laws m → (h : List (Call × Answer)) (t : TableData) (v : View) → {g : View} → History any m g h t v
     → (n j : ℕ) (u : TableData) (w : View) → OpensNodes any m n t v u w j

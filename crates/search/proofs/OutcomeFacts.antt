@@ -14,10 +14,10 @@ use Rattle.search.specs.Histories.{History, keys_lost, calls_in}
 use Rattle.search.specs.CallOutcomes.{CallOutcome}
 use Rattle.search.specs.Theorems.{OneOutcome, OneHistory}
 use Rattle.stores.specs.declared.store.Stored.TheVariants.{Kept, Lost}
-use Rattle.search.specs.Search.Place.{fresh, going, found, none}
+use Rattle.search.specs.Search.Place.{fresh, going, solved, unsolvable}
 use Rattle.search.specs.Search.Node.{dead, solution, hit, branch}
 use Rattle.search.specs.Calls.Call.{declare, post, solve, read, wipe}
-use Rattle.rows.specs.Reasons.Judgement.{passes, declined}
+use Rattle.rows.specs.Reasons.Judgement.{passes, refused_by}
 use Rattle.search.proofs.HistoryFacts.{none_fits}
 use Rattle.search.proofs.AnyStore.{steps_open}
 
@@ -49,12 +49,12 @@ module _ (store : Behaviour) (d : Decided store) (m : Meaning) where
       elim spent [ false ↦ stops (going l ls) v | true ↦ up (d.answer v (key m rows l.sets)) (others (d.after v (key m rows l.sets))) ]
 
   abbrev pub backs : List RowData → List Level → store.State → Ran store.State
-  backs rows [] v = stops none v
+  backs rows [] v = stops unsolvable v
   backs rows (l ∷ ls) v = backs_at rows l ls v (backs rows ls) (eqb l.left 0)
 
   abbrev pub opened : List RowData → List Level → store.State → Node → Ran store.State
   opened rows ls v dead = backs rows ls v
-  opened rows ls v (solution p) = stops (found p) v
+  opened rows ls v (solution p) = stops (solved p) v
   opened rows ls v hit = backs rows ls v
   opened rows ls v (branch l) = stops (going l ls) v
 
@@ -64,8 +64,8 @@ module _ (store : Behaviour) (d : Decided store) (m : Meaning) where
   abbrev pub step : List ℕ → List RowData → Place → store.State → Ran store.State
   step voices rows fresh v = opens rows voices [] v
   step voices rows (going l ls) v = opens rows (child l) (taken l ∷ ls) v
-  step voices rows (found p) v = stops (found p) v
-  step voices rows none v = stops none v
+  step voices rows (solved p) v = stops (solved p) v
+  step voices rows unsolvable v = stops unsolvable v
 
   abbrev pub next : TableData → Ran store.State → TableData
   next t r = node_more t r.place r.exhausts
@@ -91,14 +91,14 @@ module _ (store : Behaviour) (d : Decided store) (m : Meaning) where
 
   backs_is : {rows : List RowData} {ls : List Level} {v : store.State} {p : Place} {w : store.State} {n k : ℕ} (B : BacksUp store m rows ls v p w n k)
       → backs rows ls v ≡ record { place = p; state = w; exhausts = n; loses = k }
-  backs_is (BacksUp.root v) = refl
-  backs_is {rows} (BacksUp.next l ls v z) =
+  backs_is (BacksUp.at_root v) = refl
+  backs_is {rows} (BacksUp.goes_on l ls v z) =
       ap (backs_at rows l ls v (backs rows ls)) z
-  backs_is {rows} (BacksUp.keeps l ls v w u p n k z K B) =
+  backs_is {rows} (BacksUp.key_kept l ls v w u p n k z K B) =
       ap (backs_at rows l ls v (backs rows ls)) z
       ∙ ap₂ (λ (a : Stored) (x : store.State). up a (backs rows ls x)) (sym (d.answer_only v w (key m rows l.sets) Kept K)) (sym (d.after_only v w (key m rows l.sets) Kept K))
       ∙ ap (up Kept) (backs_is B)
-  backs_is {rows} (BacksUp.loses l ls v w u p n k z K B) =
+  backs_is {rows} (BacksUp.key_lost l ls v w u p n k z K B) =
       ap (backs_at rows l ls v (backs rows ls)) z
       ∙ ap₂ (λ (a : Stored) (x : store.State). up a (backs rows ls x)) (sym (d.answer_only v w (key m rows l.sets) Lost K)) (sym (d.after_only v w (key m rows l.sets) Lost K))
       ∙ ap (up Lost) (backs_is B)
@@ -112,8 +112,8 @@ module _ (store : Behaviour) (d : Decided store) (m : Meaning) where
 
   step_is : {voices : List ℕ} {rows : List RowData} {p : Place} {v : store.State} {q : Place} {w : store.State} {n k : ℕ} (S : Steps store m voices rows p v q w n k)
       → step voices rows p v ≡ record { place = q; state = w; exhausts = n; loses = k }
-  step_is (Steps.first v w p n k O) = opens_is O
-  step_is (Steps.again l ls v w p n k O) = opens_is O
+  step_is (Steps.opens_root v w p n k O) = opens_is O
+  step_is (Steps.opens_child l ls v w p n k O) = opens_is O
 
   run_over : (b : ℕ) (t : TableData) (v : store.State) → over t.place ≡ true → run b t v ≡ (t, v, 0)
   run_over zero t v e = refl
@@ -134,7 +134,7 @@ module _ (store : Behaviour) (d : Decided store) (m : Meaning) where
 
   -- what a call comes to, where i keys were lost before, and how many are lost then
   abbrev pub comes : ℕ → TableData → store.State → Call → Judgement → Answer × TableData × store.State × ℕ
-  comes i t v c (declined n) = (Answer.refused n, t, v, i)
+  comes i t v c (refused_by n) = (Answer.refused n, t, v, i)
   comes i t v (declare x) passes = (Answer.done, begun (t.voices ++ (x ∷ [])) t.rows, d.emptied v, 0)
   comes i t v (post bs) passes = (Answer.done, begun t.voices (t.rows ++ (decode m bs ∷ [])), d.emptied v, 0)
   comes i t v (solve b) passes = (place_answer (run b t v).0.place, (run b t v).0, (run b t v).1, i + (run b t v).2)
@@ -143,7 +143,7 @@ module _ (store : Behaviour) (d : Decided store) (m : Meaning) where
 
   pub does_is : {t : TableData} {v : store.State} {c : Call} {a : Answer} {u : TableData} {w : store.State} (D : Does store m t v c a u w) (i : ℕ)
       → comes i t v c (judged m t c) ≡ (a, u, w, lost_after D i)
-  does_is {t} {v} (Does.declines c n j) i = ap (comes i t v c) j
+  does_is {t} {v} (Does.refuses c n j) i = ap (comes i t v c) j
   does_is {t} {v} (Does.declares x w j e) i =
       ap (comes i t v (declare x)) j ∙ ap (λ (z : store.State). (Answer.done, begun (t.voices ++ (x ∷ [])) t.rows, z, zero)) (sym (d.emptied_only v w e))
   does_is {t} {v} (Does.posts bs w j e) i =
@@ -176,10 +176,10 @@ module _ (store : Behaviour) (d : Decided store) (m : Meaning) where
     does : BacksUp store m rows ls v place state exhausts loses
 
   some_up : (rows : List RowData) (ls : List Level) (v : store.State) → SomeUp rows ls v
-  some_up rows [] v = record { place = none; state = v; exhausts = 0; loses = 0; does = BacksUp.root v }
+  some_up rows [] v = record { place = unsolvable; state = v; exhausts = 0; loses = 0; does = BacksUp.at_root v }
   some_up rows (l ∷ ls) v =
       elim (cases_Bool (eqb l.left 0)) [
-        | inr z ↦ record { place = going l ls; state = v; exhausts = 0; loses = 0; does = BacksUp.next l ls v z }
+        | inr z ↦ record { place = going l ls; state = v; exhausts = 0; loses = 0; does = BacksUp.goes_on l ls v z }
         | inl z ↦ go rows l ls v z (d.answer v (key m rows l.sets)) refl (some_up rows ls (d.after v (key m rows l.sets)))
       ]
     where
@@ -193,7 +193,7 @@ module _ (store : Behaviour) (d : Decided store) (m : Meaning) where
             state = r.state;
             exhausts = suc r.exhausts;
             loses = r.loses;
-            does = BacksUp.keeps l ls v w r.state r.place r.exhausts r.loses z K r.does;
+            does = BacksUp.key_kept l ls v w r.state r.place r.exhausts r.loses z K r.does;
           }
       go rows l ls v z Lost e r =
           let w = d.after v (key m rows l.sets) in
@@ -203,7 +203,7 @@ module _ (store : Behaviour) (d : Decided store) (m : Meaning) where
             state = r.state;
             exhausts = suc r.exhausts;
             loses = suc r.loses;
-            does = BacksUp.loses l ls v w r.state r.place r.exhausts r.loses z K r.does;
+            does = BacksUp.key_lost l ls v w r.state r.place r.exhausts r.loses z K r.does;
           }
 
   record SomeOpen (rows : List RowData) (b : List ℕ) (ls : List Level) (v : store.State) : Type 0 where
@@ -219,7 +219,7 @@ module _ (store : Behaviour) (d : Decided store) (m : Meaning) where
       go : (x : Node) → node m rows (store.view v) (below ls) (propagated m rows b) ≡ x → SomeUp rows ls v → SomeOpen rows b ls v
       go dead e r = record { place = r.place; state = r.state; exhausts = r.exhausts; loses = r.loses; does = Opens.dies r.place r.state r.exhausts r.loses e r.does }
       go hit e r = record { place = r.place; state = r.state; exhausts = r.exhausts; loses = r.loses; does = Opens.hits r.place r.state r.exhausts r.loses e r.does }
-      go (solution p) e r = record { place = found p; state = v; exhausts = 0; loses = 0; does = Opens.finds p e }
+      go (solution p) e r = record { place = solved p; state = v; exhausts = 0; loses = 0; does = Opens.finds p e }
       go (branch l) e r = record { place = going l ls; state = v; exhausts = 0; loses = 0; does = Opens.branches l e }
 
   record SomeStep (voices : List ℕ) (rows : List RowData) (p : Place) (v : store.State) : Type 0 where
@@ -232,12 +232,12 @@ module _ (store : Behaviour) (d : Decided store) (m : Meaning) where
   some_step : (voices : List ℕ) (rows : List RowData) (p : Place) (v : store.State) → (over p ≡ true) ⊎ SomeStep voices rows p v
   some_step voices rows fresh v =
       let r = some_open rows voices [] v in
-      inr (record { place = r.place; state = r.state; exhausts = r.exhausts; loses = r.loses; does = Steps.first v r.state r.place r.exhausts r.loses r.does })
+      inr (record { place = r.place; state = r.state; exhausts = r.exhausts; loses = r.loses; does = Steps.opens_root v r.state r.place r.exhausts r.loses r.does })
   some_step voices rows (going l ls) v =
       let r = some_open rows (child l) (taken l ∷ ls) v in
-      inr (record { place = r.place; state = r.state; exhausts = r.exhausts; loses = r.loses; does = Steps.again l ls v r.state r.place r.exhausts r.loses r.does })
-  some_step voices rows (found p) v = inl refl
-  some_step voices rows none v = inl refl
+      inr (record { place = r.place; state = r.state; exhausts = r.exhausts; loses = r.loses; does = Steps.opens_child l ls v r.state r.place r.exhausts r.loses r.does })
+  some_step voices rows (solved p) v = inl refl
+  some_step voices rows unsolvable v = inl refl
 
   record SomeSolve (b : ℕ) (t : TableData) (v : store.State) : Type 0 where
     table : TableData
@@ -265,17 +265,17 @@ module _ (store : Behaviour) (d : Decided store) (m : Meaning) where
             }
       ]
 
-  found_by : (x : Place) → is_found x ≡ true → x ≡ found (result x)
+  found_by : (x : Place) → is_found x ≡ true → x ≡ solved (result x)
   found_by fresh e = absurd (both_ways false refl e)
   found_by (going l ls) e = absurd (both_ways false refl e)
-  found_by (found p) e = refl
-  found_by none e = absurd (both_ways false refl e)
+  found_by (solved p) e = refl
+  found_by unsolvable e = absurd (both_ways false refl e)
 
   outcome : (t : TableData) (v : store.State) (c : Call) → CallOutcome store m t v c
   outcome t v c = go c (judged m t c) refl
     where
       go : (c : Call) (j : Judgement) → judged m t c ≡ j → CallOutcome store m t v c
-      go c (declined n) e = record { answer = Answer.refused n; table = t; state = v; does = Does.declines c n e }
+      go c (refused_by n) e = record { answer = Answer.refused n; table = t; state = v; does = Does.refuses c n e }
       go (declare x) passes e =
           record { answer = Answer.done; table = begun (t.voices ++ (x ∷ [])) t.rows; state = d.emptied v; does = Does.declares x (d.emptied v) e (d.empties v) }
       go (post bs) passes e =

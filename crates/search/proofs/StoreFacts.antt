@@ -12,17 +12,17 @@ use Rattle.search.specs.Propagation.{propagated}
 use Rattle.rows.specs.Reasons.{Judgement}
 use Rattle.search.specs.Calls.{TableData, Call, Answer, over, place_answer, result, node_more, OpensNodes, Does, lost_after}
 use Rattle.search.specs.CallOutcomes.{SameKeys}
-use Rattle.search.specs.Search.Place.{going, found, none}
+use Rattle.search.specs.Search.Place.{going, solved, unsolvable}
 use Rattle.search.specs.Search.Node.{dead, solution, hit, branch}
 use Rattle.search.proofs.HistoryFacts.{not_both}
 use Rattle.search.proofs.AnswerFacts.{steps_not_over}
 
 keeps_agree : (v v' : View) (k : List ℕ) (w w' : View) → SameKeys v v' → Keeps v k Kept w → Keeps v' k Kept w' → SameKeys w w'
-keeps_agree v v' k w w' s (Keeps.again h) (Keeps.again g) = s
-keeps_agree v v' k w w' s (Keeps.again h) (Keeps.joins x g f j) = absurd (both_ways (is_held k v'.held) g (sym (s k) ∙ h))
-keeps_agree v v' k w w' s (Keeps.joins x g f j) (Keeps.again h) = absurd (both_ways (is_held k v.held) g (s k ∙ h))
+keeps_agree v v' k w w' s (Keeps.held_already h) (Keeps.held_already g) = s
+keeps_agree v v' k w w' s (Keeps.held_already h) (Keeps.joins x g f j) = absurd (both_ways (is_held k v'.held) g (sym (s k) ∙ h))
+keeps_agree v v' k w w' s (Keeps.joins x g f j) (Keeps.held_already h) = absurd (both_ways (is_held k v.held) g (s k ∙ h))
 keeps_agree v v' k w w' s (Keeps.joins x g f j) (Keeps.joins x' g' f' j') =
-    λ y. j.members y ∙ ap (λ (b : Bool). same y k || b) (s y) ∙ sym (j'.members y)
+    λ y. j.holds y ∙ ap (λ (b : Bool). same y k || b) (s y) ∙ sym (j'.holds y)
 
 module _ (m : Meaning) where
   -- what two outcomes share
@@ -31,16 +31,16 @@ module _ (m : Meaning) where
 
   -- backing up with no key lost, level by level
   abbrev Backed : List RowData → List Level → View → Place → View → ℕ → Type 0
-  Backed rows [] v p w n = (p ≡ none) × (w ≡ v) × (n ≡ 0)
+  Backed rows [] v p w n = (p ≡ unsolvable) × (w ≡ v) × (n ≡ 0)
   Backed rows (l ∷ ls) v p w n =
       ((eqb l.left 0 ≡ false) × (p ≡ going l ls) × (w ≡ v) × (n ≡ 0))
       ⊎ ((eqb l.left 0 ≡ true) × (x : View) × (i : ℕ) × Keeps v (key m rows l.sets) Kept x × (n ≡ suc i) × Backed rows ls x p w i)
 
   backed : {rows : List RowData} {ls : List Level} {v : View} {p : Place} {w : View} {n k : ℕ} → BacksUp any m rows ls v p w n k → k ≡ 0 → Backed rows ls v p w n
-  backed (BacksUp.root v) e = (refl, refl, refl)
-  backed (BacksUp.next l ls v z) e = inl (z, refl, refl, refl)
-  backed (BacksUp.keeps l ls v w u p n k z K B) e = inr (z, w, n, K, refl, backed B e)
-  backed (BacksUp.loses l ls v w u p n k z K B) e = absurd (omega arith)
+  backed (BacksUp.at_root v) e = (refl, refl, refl)
+  backed (BacksUp.goes_on l ls v z) e = inl (z, refl, refl, refl)
+  backed (BacksUp.key_kept l ls v w u p n k z K B) e = inr (z, w, n, K, refl, backed B e)
+  backed (BacksUp.key_lost l ls v w u p n k z K B) e = absurd (omega arith)
 
   moved : (v v' w w' : View) → w ≡ v → w' ≡ v' → SameKeys v v' → SameKeys w w'
   moved v v' w w' e e' s x = ap (λ (z : View). is_held x z.held) e ∙ s x ∙ sym (ap (λ (z : View). is_held x z.held) e')
@@ -59,12 +59,12 @@ module _ (m : Meaning) where
   abbrev Opened : List RowData → List Level → View → Node → Place → View → ℕ → Type 0
   Opened rows ls v dead p w n = Backed rows ls v p w n
   Opened rows ls v hit p w n = Backed rows ls v p w n
-  Opened rows ls v (solution q) p w n = (p ≡ found q) × (w ≡ v) × (n ≡ 0)
+  Opened rows ls v (solution q) p w n = (p ≡ solved q) × (w ≡ v) × (n ≡ 0)
   Opened rows ls v (branch l) p w n = (p ≡ going l ls) × (w ≡ v) × (n ≡ 0)
 
   opened : {rows : List RowData} {b : List ℕ} {ls : List Level} {v : View} {p : Place} {w : View} {n k : ℕ} → Opens any m rows b ls v p w n k → k ≡ 0
       → Opened rows ls v (node m rows v (below ls) (propagated m rows b)) p w n
-  opened {rows} {b} {ls} {v} (Opens.finds p h) e = subst (λ (x : Node). Opened rows ls v x (found p) v 0) (sym h) (refl, refl, refl)
+  opened {rows} {b} {ls} {v} (Opens.finds p h) e = subst (λ (x : Node). Opened rows ls v x (solved p) v 0) (sym h) (refl, refl, refl)
   opened {rows} {b} {ls} {v} (Opens.branches l h) e = subst (λ (x : Node). Opened rows ls v x (going l ls) v 0) (sym h) (refl, refl, refl)
   opened {rows} {b} {ls} {v} (Opens.dies p w n k h B) e = subst (λ (x : Node). Opened rows ls v x p w n) (sym h) (backed B e)
   opened {rows} {b} {ls} {v} (Opens.hits p w n k h B) e = subst (λ (x : Node). Opened rows ls v x p w n) (sym h) (backed B e)
@@ -93,8 +93,8 @@ module _ (m : Meaning) where
 
   steps_agree : {voices : List ℕ} {rows : List RowData} {x : Place} {v v' : View} {p p' : Place} {w w' : View} {n n' k k' : ℕ} → SameKeys v v'
       → Steps any m voices rows x v p w n k → Steps any m voices rows x v' p' w' n' k' → k ≡ 0 → k' ≡ 0 → Both p w n p' w' n'
-  steps_agree {voices} {rows} s (Steps.first v w p n k O) (Steps.first v' w' p' n' k' O') e e' = opens_agree rows voices [] v v' s O O' e e'
-  steps_agree {voices} {rows} s (Steps.again l ls v w p n k O) (Steps.again l' ls' v' w' p' n' k' O') e e' =
+  steps_agree {voices} {rows} s (Steps.opens_root v w p n k O) (Steps.opens_root v' w' p' n' k' O') e e' = opens_agree rows voices [] v v' s O O' e e'
+  steps_agree {voices} {rows} s (Steps.opens_child l ls v w p n k O) (Steps.opens_child l' ls' v' w' p' n' k' O') e e' =
       opens_agree rows (child l) (taken l ∷ ls) v v' s O O' e e'
 
   goes_agree : {i i' : ℕ} {t t' : TableData} {v v' : View} {u u' : TableData} {w w' : View} {k k' : ℕ} → OpensNodes any m i t v u w k → OpensNodes any m i' t' v' u' w' k'
@@ -113,7 +113,7 @@ module _ (m : Meaning) where
 
   abbrev number : Judgement → ℕ
   number Judgement.passes = 0
-  number (Judgement.declined n) = n
+  number (Judgement.refused_by n) = n
 
   none_held : (w w' : View) → w.held ≡ [] → w'.held ≡ [] → SameKeys w w'
   none_held w w' e e' x = ap (is_held x) (e ∙ sym e')
@@ -121,23 +121,23 @@ module _ (m : Meaning) where
   does_agree : (t : TableData) (v v' : View) {c : Call} {a a' : Answer} {u u' : TableData} {w w' : View} → SameKeys v v'
       → (D : Does any m t v c a u w) (D' : Does any m t v' c a' u' w') → lost_after D 0 ≡ 0 → lost_after D' 0 ≡ 0
       → (a ≡ a') × (u ≡ u') × SameKeys w w' × ((n : ℕ) → lost_after D n ≡ lost_after D' n)
-  does_agree t v v' s (Does.declines c n j) (Does.declines c' n' j') z z' = (ap (λ (x : Judgement). Answer.refused (number x)) (sym j ∙ j'), refl, s, λ i. refl)
-  does_agree t v v' s (Does.declines c n j) (Does.declares x' w' j' e') z z' = absurd (not_both j j')
-  does_agree t v v' s (Does.declines c n j) (Does.posts x' w' j' e') z z' = absurd (not_both j j')
-  does_agree t v v' s (Does.declines c n j) (Does.wipes w' e') z z' = absurd (not_both j refl)
-  does_agree t v v' s (Does.declines c n j) (Does.solves b' u' w' k' j' S') z z' = absurd (not_both j j')
-  does_agree t v v' s (Does.declines c n j) (Does.reads b' p' j' e') z z' = absurd (not_both j j')
-  does_agree t v v' s (Does.declares x w j e) (Does.declines c n j') z z' = absurd (not_both j' j)
+  does_agree t v v' s (Does.refuses c n j) (Does.refuses c' n' j') z z' = (ap (λ (x : Judgement). Answer.refused (number x)) (sym j ∙ j'), refl, s, λ i. refl)
+  does_agree t v v' s (Does.refuses c n j) (Does.declares x' w' j' e') z z' = absurd (not_both j j')
+  does_agree t v v' s (Does.refuses c n j) (Does.posts x' w' j' e') z z' = absurd (not_both j j')
+  does_agree t v v' s (Does.refuses c n j) (Does.wipes w' e') z z' = absurd (not_both j refl)
+  does_agree t v v' s (Does.refuses c n j) (Does.solves b' u' w' k' j' S') z z' = absurd (not_both j j')
+  does_agree t v v' s (Does.refuses c n j) (Does.reads b' p' j' e') z z' = absurd (not_both j j')
+  does_agree t v v' s (Does.declares x w j e) (Does.refuses c n j') z z' = absurd (not_both j' j)
   does_agree t v v' s (Does.declares x w j e) (Does.declares x' w' j' e') z z' = (refl, refl, none_held w w' e e', λ i. refl)
-  does_agree t v v' s (Does.posts x w j e) (Does.declines c n j') z z' = absurd (not_both j' j)
+  does_agree t v v' s (Does.posts x w j e) (Does.refuses c n j') z z' = absurd (not_both j' j)
   does_agree t v v' s (Does.posts x w j e) (Does.posts x' w' j' e') z z' = (refl, refl, none_held w w' e e', λ i. refl)
-  does_agree t v v' s (Does.wipes w e) (Does.declines c n j') z z' = absurd (not_both j' refl)
+  does_agree t v v' s (Does.wipes w e) (Does.refuses c n j') z z' = absurd (not_both j' refl)
   does_agree t v v' s (Does.wipes w e) (Does.wipes w' e') z z' = (refl, refl, none_held w w' e e', λ i. refl)
-  does_agree t v v' s (Does.solves b u w k j S) (Does.declines c n j') z z' = absurd (not_both j' j)
+  does_agree t v v' s (Does.solves b u w k j S) (Does.refuses c n j') z z' = absurd (not_both j' j)
   does_agree t v v' s (Does.solves b u w k j S) (Does.solves b' u' w' k' j' S') z z' =
       let r = goes_agree S.goes S'.goes b refl s S.inside S'.inside S.ends S'.ends (omega (arith, z)) (omega (arith, z')) in
       (ap (λ (x : TableData). place_answer x.place) r.0, r.0, r.1, λ i. omega (arith, z, z'))
-  does_agree t v v' s (Does.reads b p j e) (Does.declines c n j') z z' = absurd (not_both j' j)
+  does_agree t v v' s (Does.reads b p j e) (Does.refuses c n j') z z' = absurd (not_both j' j)
   does_agree t v v' s (Does.reads b p j e) (Does.reads b' p' j' e') z z' =
       (ap (λ (x : Place). Answer.wrote (length (result x)) (result x ++ drop (length (result x)) b)) (sym e ∙ e'), refl, s, λ i. refl)
 

@@ -36,11 +36,11 @@ SameKeys v w = (x : List ℕ) → is_held x v.held ≡ is_held x w.held
 -- none of the keys of the nodes that are exhausted in backing up is held when it goes to the store
 abbrev pub BacksNew : {b : Behaviour} {m : Meaning} {rows : List RowData} {ls : List Level}
     {s : b.State} {p : Place} {t : b.State} {n k : ℕ} → BacksUp b m rows ls s p t n k → Type 0
-BacksNew (BacksUp.root s) = Unit {0}
-BacksNew (BacksUp.next l ls s z) = Unit {0}
-BacksNew {b} {m} {rows} (BacksUp.keeps l ls s t u p n k z K B) =
+BacksNew (BacksUp.at_root s) = Unit {0}
+BacksNew (BacksUp.goes_on l ls s z) = Unit {0}
+BacksNew {b} {m} {rows} (BacksUp.key_kept l ls s t u p n k z K B) =
     (is_held (key m rows l.sets) (b.view s).held ≡ false) × BacksNew B
-BacksNew {b} {m} {rows} (BacksUp.loses l ls s t u p n k z K B) =
+BacksNew {b} {m} {rows} (BacksUp.key_lost l ls s t u p n k z K B) =
     (is_held (key m rows l.sets) (b.view s).held ≡ false) × BacksNew B
 
 -- none of those that the opening of a node exhausts
@@ -56,5 +56,5 @@ OpensNew (Opens.hits p t n k h B) = BacksNew B
 abbrev pub StepsNew : {b : Behaviour} {m : Meaning} {voices : List ℕ} {rows : List RowData}
     {p : Place} {s : b.State} {q : Place} {t : b.State} {n k : ℕ}
     → Steps b m voices rows p s q t n k → Type 0
-StepsNew (Steps.first s t p n k O) = OpensNew O
-StepsNew (Steps.again l ls s t p n k O) = OpensNew O
+StepsNew (Steps.opens_root s t p n k O) = OpensNew O
+StepsNew (Steps.opens_child l ls s t p n k O) = OpensNew O

@@ -3,7 +3,7 @@ use Rattle.std.specs.Prelude.{◌≡◌, ℕ, zero, suc, ◌+◌, ◌^◌, ◌<�
 use Rattle.rows.specs.Rows.{RowData, Meaning}
 use Rattle.rows.specs.Bytes.{Bytes, decode}
 use Rattle.rows.specs.Reasons.{Judgement, judge, voice_reasons, row_reasons}
-use Rattle.rows.specs.Reasons.Judgement.{passes, declined}
+use Rattle.rows.specs.Reasons.Judgement.{passes, refused_by}
 use Rattle.stores.specs.Behaviours.{Behaviour}
 use Rattle.rows.specs.declared.limits.TheConstants.{MOST_BUDGET, MOST_OPENED}
 use Rattle.search.specs.Search.{Place, Steps}
@@ -32,22 +32,22 @@ empty = begun [] []
 abbrev pub over : Place → Bool
 over Place.fresh = false
 over (Place.going l ls) = false
-over (Place.found p) = true
-over Place.none = true
+over (Place.solved p) = true
+over Place.unsolvable = true
 
 -- it is over and has found values
 abbrev pub is_found : Place → Bool
 is_found Place.fresh = false
 is_found (Place.going l ls) = false
-is_found (Place.found p) = true
-is_found Place.none = false
+is_found (Place.solved p) = true
+is_found Place.unsolvable = false
 
 -- the found values
 abbrev pub result : Place → List ℕ
 result Place.fresh = []
 result (Place.going l ls) = []
-result (Place.found p) = p
-result Place.none = []
+result (Place.solved p) = p
+result Place.unsolvable = []
 
 -- ---- calls and answers
 
@@ -79,7 +79,7 @@ Formed wipe = Unit {0}
 
 -- ---- refusals
 
--- The numbers under which a call may be declined, ascending, each with whether it fits.
+-- The numbers under which a call may be refused, ascending, each with whether it fits.
 abbrev pub reasons : Meaning → TableData → Call → List (ℕ × Bool)
 reasons m t (declare s) = voice_reasons t.voices s
 reasons m t (post bs) = row_reasons m t.voices t.rows bs
@@ -130,16 +130,16 @@ pub record Solved (b : Behaviour) (m : Meaning) (budget : ℕ) (t : TableData) (
 abbrev pub place_answer : Place → Answer
 place_answer Place.fresh = stopped
 place_answer (Place.going l ls) = stopped
-place_answer (Place.found p) = found p
-place_answer Place.none = none
+place_answer (Place.solved p) = found p
+place_answer Place.unsolvable = none
 
 -- ---- what a call does to a table and its store
 
 -- The call, its answer, and the table and the state of the store that it leaves.
 pub data Does (b : Behaviour) (m : Meaning) (t : TableData) (s : b.State) : Call → Answer
     → TableData → b.State → Type 0 where
-  -- a declined call leaves both as they are
-  declines : (c : Call) (n : ℕ) → judged m t c ≡ declined n → Does b m t s c (refused n) t s
+  -- a refused call leaves both as they are
+  refuses : (c : Call) (n : ℕ) → judged m t c ≡ refused_by n → Does b m t s c (refused n) t s
   -- Declare, Post and Wipe empty the store, and the search begins again
   declares : (set : ℕ) (r : b.State) → judged m t (declare set) ≡ passes → b.empties s r
       → Does b m t s (declare set) done (begun (t.voices ++ (set ∷ [])) t.rows) r
@@ -151,14 +151,14 @@ pub data Does (b : Behaviour) (m : Meaning) (t : TableData) (s : b.State) : Call
       → judged m t (solve budget) ≡ passes
       → Solved b m budget t s u r lost → Does b m t s (solve budget) (place_answer u.place) u r
   -- the values at the front of the buffer, and the bytes beyond as they were
-  reads : (buffer p : List ℕ) → judged m t (read buffer) ≡ passes → t.place ≡ Place.found p
+  reads : (buffer p : List ℕ) → judged m t (read buffer) ≡ passes → t.place ≡ Place.solved p
       → Does b m t s (read buffer) (wrote (length p) (p ++ drop (length p) buffer)) t s
 
 -- How many keys the store has lost since it was emptied, where it had lost n before this call. No
 -- table has this count: it follows from what Keep returned.
 abbrev pub lost_after : {b : Behaviour} {m : Meaning} {t : TableData} {s : b.State} {c : Call}
     {a : Answer} {u : TableData} {r : b.State} → Does b m t s c a u r → ℕ → ℕ
-lost_after (Does.declines c k j) n = n
+lost_after (Does.refuses c k j) n = n
 lost_after (Does.declares set r j e) n = 0
 lost_after (Does.posts bs r j e) n = 0
 lost_after (Does.wipes r e) n = 0

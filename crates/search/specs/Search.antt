@@ -23,8 +23,8 @@ pub record Level : Type 0 where
 pub data Place : Type 0 where
   fresh : Place
   going : Level → List Level → Place
-  found : List ℕ → Place
-  none : Place
+  solved : List ℕ → Place
+  unsolvable : Place
 
 -- ---- the voice that a node branches on
 
@@ -94,14 +94,14 @@ taken l = record { sets = l.sets; voice = l.voice; left = l.left - only (least l
 -- how many levels were exhausted and how many keys were lost.
 pub data BacksUp (b : Behaviour) (m : Meaning) (rows : List RowData) : List Level → b.State → Place
     → b.State → ℕ → ℕ → Type 0 where
-  root : (s : b.State) → BacksUp b m rows [] s none s 0 0
-  next : (l : Level) (ls : List Level) (s : b.State) → (l.left == 0) ≡ false
+  at_root : (s : b.State) → BacksUp b m rows [] s unsolvable s 0 0
+  goes_on : (l : Level) (ls : List Level) (s : b.State) → (l.left == 0) ≡ false
       → BacksUp b m rows (l ∷ ls) s (going l ls) s 0 0
-  keeps : (l : Level) (ls : List Level) (s t u : b.State) (p : Place) (n k : ℕ)
+  key_kept : (l : Level) (ls : List Level) (s t u : b.State) (p : Place) (n k : ℕ)
       → (l.left == 0) ≡ true
       → b.keeps s (key m rows l.sets) Kept t → BacksUp b m rows ls t p u n k
       → BacksUp b m rows (l ∷ ls) s p u (suc n) k
-  loses : (l : Level) (ls : List Level) (s t u : b.State) (p : Place) (n k : ℕ)
+  key_lost : (l : Level) (ls : List Level) (s t u : b.State) (p : Place) (n k : ℕ)
       → (l.left == 0) ≡ true
       → b.keeps s (key m rows l.sets) Lost t → BacksUp b m rows ls t p u n k
       → BacksUp b m rows (l ∷ ls) s p u (suc n) (suc k)
@@ -110,7 +110,7 @@ pub data BacksUp (b : Behaviour) (m : Meaning) (rows : List RowData) : List Leve
 pub data Opens (b : Behaviour) (m : Meaning) (rows : List RowData) (sets : List ℕ) (ls : List Level)
     (s : b.State) : Place → b.State → ℕ → ℕ → Type 0 where
   finds : (p : List ℕ) → node m rows (b.view s) (below ls) (propagated m rows sets) ≡ solution p
-      → Opens b m rows sets ls s (found p) s 0 0
+      → Opens b m rows sets ls s (solved p) s 0 0
   branches : (l : Level) → node m rows (b.view s) (below ls) (propagated m rows sets) ≡ branch l
       → Opens b m rows sets ls s (going l ls) s 0 0
   dies : (p : Place) (t : b.State) (n k : ℕ)
@@ -124,8 +124,8 @@ pub data Opens (b : Behaviour) (m : Meaning) (rows : List RowData) (sets : List 
 -- level.
 pub data Steps (b : Behaviour) (m : Meaning) (voices : List ℕ) (rows : List RowData) : Place
     → b.State → Place → b.State → ℕ → ℕ → Type 0 where
-  first : (s t : b.State) (p : Place) (n k : ℕ) → Opens b m rows voices [] s p t n k
+  opens_root : (s t : b.State) (p : Place) (n k : ℕ) → Opens b m rows voices [] s p t n k
       → Steps b m voices rows fresh s p t n k
-  again : (l : Level) (ls : List Level) (s t : b.State) (p : Place) (n k : ℕ)
+  opens_child : (l : Level) (ls : List Level) (s t : b.State) (p : Place) (n k : ℕ)
       → Opens b m rows (child l) (taken l ∷ ls) s p t n k
       → Steps b m voices rows (going l ls) s p t n k

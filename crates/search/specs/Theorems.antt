@@ -130,10 +130,10 @@ SolveKeepsBudget b =
     → judged m t (solve budget) ≡ Judgement.passes → Does b m t s (solve budget) a u r
     → Budgeted t budget a u × (over t.place ≡ true → r ≡ s)
 
--- A call is declined under the smallest number that fits, and passes exactly when none does.
+-- A call is refused under the smallest number that fits, and passes exactly when none does.
 abbrev pub RefusalsSmallest : Type 0
 RefusalsSmallest = (m : Meaning) (t : TableData) (c : Call)
-    → ((n : ℕ) → (judged m t c ≡ Judgement.declined n)
+    → ((n : ℕ) → (judged m t c ≡ Judgement.refused_by n)
     ↔ ((reason_fits n (reasons m t c) ≡ true)
     × ((k : ℕ) → k < n → reason_fits k (reasons m t c) ≡ false)))
     × ((judged m t c ≡ Judgement.passes) ↔ ((k : ℕ) → reason_fits k (reasons m t c) ≡ false))

@@ -15,7 +15,7 @@ use Rattle.search.proofs.OverEvery.{invariant_holds, limits_hold}
 use Rattle.sheets.specs.declared.refusal.SheetRefusal.{SheetRefusal}
 use Rattle.sheets.specs.Sheets.{sheet}
 use Rattle.sheets.specs.Reading.{SheetReading, read_sheet}
-use Rattle.sheets.specs.Reading.SheetReading.{accepted, refused}
+use Rattle.sheets.specs.Reading.SheetReading.{accepted, faulty}
 use Rattle.sheets.specs.Laws.{SheetLawsHold, declared_after, posted_after}
 use Rattle.sheets.specs.Loading.{load_answer, reading_answer, table_after, FillHistory, FillExtends, LoadLeaves, LoadExtends, LoadBack, RecordsRead}
 use Rattle.sheets.proofs.Loaded.{ReadRight, read_right}
@@ -30,10 +30,10 @@ sheet_laws_hold m L = record {
 
 -- ---- after any calls
 
--- From an empty table and the state w: the records were read, to the table x and the state y; and where the sheet was declined, a Wipe, to the table u and the state r.
+-- From an empty table and the state w: the records were read, to the table x and the state y; and where the sheet was refused, a Wipe, to the table u and the state r.
 pub record Filled (b : Behaviour) (m : Meaning) (bs : List ℕ) (w : b.State) (x : TableData) (y : b.State) (res : Result (Unit {0}) SheetRefusal) (u : TableData) (r : b.State) : Type 0 where
   pub read : RecordsRead b m bs w x y (read_sheet m bs) res
-  pub declined : is_err res ≡ true → (u ≡ empty) × b.empties y r
+  pub refused : is_err res ≡ true → (u ≡ empty) × b.empties y r
   pub accepted : is_err res ≡ false → (u ≡ x) × (r ≡ y)
 
 module _ (b : Behaviour) (m : Meaning) (L : Laws m) (bs : List ℕ) {w y r : b.State} {x u : TableData} {res : Result (Unit {0}) SheetRefusal} (l : Filled b m bs w x y res u r) where
@@ -62,17 +62,17 @@ module _ (b : Behaviour) (m : Meaning) (L : Laws m) (bs : List ℕ) {w y r : b.S
       )
 
   filled : (g : b.State) (h : List (Call × Answer)) → LeadsTo b m g h empty w 0 → FillHistory b m g h bs (read_sheet m bs) u r
-  filled g h H = filled_by res l.read l.declined l.accepted g h H
+  filled g h H = filled_by res l.read l.refused l.accepted g h H
 
   invariant_led : (g : b.State) (h : List (Call × Answer)) → LeadsTo b m g h u r 0 → Invariant m 0 u (b.view r)
   invariant_led g h (H, e) = subst (λ (n : ℕ). Invariant m n u (b.view r)) e (invariant_holds b m L g h u r H)
 
   invariant_by : (o : SheetReading) (g : b.State) (h : List (Call × Answer)) → FillHistory b m g h bs o u r → Invariant m 0 u (b.view r)
   invariant_by (accepted voices rows) g h H = invariant_led g (posted_after (declared_after h voices) rows) H
-  invariant_by (refused number place layer) g h H = invariant_led g ((wipe, done) ∷ posted_after (declared_after h H.0.voices) H.0.rows) H.1
+  invariant_by (faulty number place layer) g h H = invariant_led g ((wipe, done) ∷ posted_after (declared_after h H.0.voices) H.0.rows) H.1
 
   pub leaves : u ≡ table_after (read_sheet m bs)
-  leaves = table_by res l.read l.declined l.accepted
+  leaves = table_by res l.read l.refused l.accepted
 
   pub extends : FillExtends b m w bs u r
   extends = record { history = filled; invariant = λ g h H. invariant_by (read_sheet m bs) g h (filled g h H) }
@@ -98,7 +98,7 @@ module _ (b : Behaviour) (m : Meaning) (bs : List ℕ) {s w r : b.State} {u : Ta
 
 back : (m : Meaning) → Laws m → (bs : List ℕ) → Bytes bs → (u : TableData) (o : SheetReading) → read_sheet m bs ≡ o → u ≡ table_after o → LoadBack o bs (sheet u.voices u.rows)
 back m L bs b u (accepted voices rows) e f = ap (λ (x : TableData). sheet x.voices x.rows) f ∙ ((sheet_laws_hold m L).loaded_saves bs b voices rows e).1
-back m L bs b u (refused number place layer) e f = tt
+back m L bs b u (faulty number place layer) e f = tt
 
 pub loads_back : (m : Meaning) → Laws m → (bs : List ℕ) → Bytes bs → (u : TableData) → u ≡ table_after (read_sheet m bs) → LoadBack (read_sheet m bs) bs (sheet u.voices u.rows)
 loads_back m L bs b u f = back m L bs b u (read_sheet m bs) refl f

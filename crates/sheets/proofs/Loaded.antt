@@ -24,8 +24,8 @@ use Rattle.search.proofs.OverEvery.{limits_hold}
 use Rattle.sheets.specs.declared.refusal.Layer.{Layer}
 use Rattle.sheets.specs.Sheets.{voice_record, voice_records, row_records, records, sheet}
 use Rattle.sheets.specs.Reading.{RecordReading, read_record, SheetReading, read_on, read_from, read_sheet}
-use Rattle.sheets.specs.Reading.RecordReading.{last, voice, row, fault}
-use Rattle.sheets.specs.Reading.SheetReading.{accepted, refused}
+use Rattle.sheets.specs.Reading.RecordReading.{last, a_voice, a_row, fault}
+use Rattle.sheets.specs.Reading.SheetReading.{accepted, faulty}
 use Rattle.sheets.specs.Laws.{Holdable, FirstFault, declared_after, posted_after}
 use Rattle.sheets.proofs.Records.{VoiceHere, RowHere, voice_here, row_here, last_here}
 use Rattle.sheets.specs.Loading.{Fills}
@@ -169,17 +169,17 @@ module _ (m : Meaning) (L : Laws m) (whole : List ℕ) where
   -- what reading the whole comes to: voices and rows that a table can have, of the same bytes, or the first fault
   abbrev pub ReadRight : SheetReading → Type 0
   ReadRight (accepted voices rows) = Holdable m voices rows × (sheet voices rows ≡ whole)
-  ReadRight (refused number place layer) = FirstFault m whole number place layer
+  ReadRight (faulty number place layer) = FirstFault m whole number place layer
 
   paired_onto : (n at : ℕ) (voices : List ℕ) (rows : List RowData) (bs : List ℕ) → length bs < suc n → BareRead m whole at voices rows bs
       → ((at : ℕ) (voices : List ℕ) (rows : List RowData) (bs : List ℕ) → length bs < n → BareRead m whole at voices rows bs → ReadRight (read_from m n at voices rows bs))
       → (i : RecordReading) → read_record m voices rows bs ≡ i → ReadRight (read_on m (read_from m n) at voices rows bs i)
   paired_onto n at voices rows bs l R next last f =
       (holdable R.fills, ap (λ (x : List ℕ). records voices rows ++ x) (sym (last_here m voices rows bs f)) ∙ R.whole_is)
-  paired_onto n at voices rows bs l R next (voice s) f =
+  paired_onto n at voices rows bs l R next (a_voice s) f =
       let V = voice_here m voices rows bs s f in
       next (at + 9) (voices ++ (s ∷ [])) rows (drop 9 bs) (omega (arith, l, V.long, length-drop 9 bs)) (one_voice bare m whole tt at voices rows bs tt tt s R V tt)
-  paired_onto n at voices rows bs l R next (row r) f =
+  paired_onto n at voices rows bs l R next (a_row r) f =
       let V = row_here m voices rows bs r f in
       next (at + length r) voices (rows ++ (decode m r ∷ [])) (drop (length r) bs)
       (omega (arith, l, some_row m (begun voices rows) r V.passes, length-drop (length r) bs, ap length V.front, length-take (length r) bs)) (one_row bare m whole tt at voices rows bs r tt tt R V tt)

@@ -9,8 +9,8 @@ use Rattle.search.specs.Calls.{begun, judged}
 use Rattle.search.specs.Calls.Call.{declare, post}
 use Rattle.sheets.specs.declared.refusal.Layer.TheVariants.{Sheet}
 use Rattle.std.specs.Int.{w64, from_le_bytes}
-use Rattle.sheets.specs.Reading.{RecordReading, if_passes, read_end, read_voice, front_row, read_row, read_record}
-use Rattle.sheets.specs.Reading.RecordReading.{last, voice, row, fault}
+use Rattle.sheets.specs.Reading.{RecordReading, if_passes, read_end_record, read_voice_record, front_row, read_row_record, read_record}
+use Rattle.sheets.specs.Reading.RecordReading.{last, a_voice, a_row, fault}
 
 -- ---- the row at the front
 
@@ -32,56 +32,56 @@ front_part m bs =
 
 -- ---- hex 56
 
-pub late_voice : (m : Meaning) (voices : List ℕ) (rows : List RowData) (bs : List ℕ) → (length rows ≡ 0 → ⊥) → read_voice m voices rows bs ≡ fault 3 0 Sheet
+pub late_voice : (m : Meaning) (voices : List ℕ) (rows : List RowData) (bs : List ℕ) → (length rows ≡ 0 → ⊥) → read_voice_record m voices rows bs ≡ fault 3 0 Sheet
 late_voice m voices [] bs h = absurd (h refl)
 late_voice m voices (r ∷ rows) bs h = refl
 
-pub cut_voice : (m : Meaning) (voices : List ℕ) (rows : List RowData) (bs : List ℕ) → length rows ≡ 0 → length bs < 8 → read_voice m voices rows bs ≡ fault 6 0 Sheet
+pub cut_voice : (m : Meaning) (voices : List ℕ) (rows : List RowData) (bs : List ℕ) → length rows ≡ 0 → length bs < 8 → read_voice_record m voices rows bs ≡ fault 6 0 Sheet
 cut_voice m voices [] bs e h =
-    cond-true (ltb (length bs) 8) (fault 6 0 Sheet) (if_passes (judged m (begun voices []) (declare (from_le_bytes w64 (take 8 bs)))) (voice (from_le_bytes w64 (take 8 bs)))) (lt-ltb (length bs) 8 h)
+    cond-true (ltb (length bs) 8) (fault 6 0 Sheet) (if_passes (judged m (begun voices []) (declare (from_le_bytes w64 (take 8 bs)))) (a_voice (from_le_bytes w64 (take 8 bs)))) (lt-ltb (length bs) 8 h)
 cut_voice m voices (r ∷ rows) bs e h = absurd (omega arith)
 
 pub whole_voice : (m : Meaning) (voices : List ℕ) (rows : List RowData) (bs : List ℕ) (s : ℕ) → length rows ≡ 0 → 8 ≤ length bs → from_le_bytes w64 (take 8 bs) ≡ s
-    → read_voice m voices rows bs ≡ if_passes (judged m (begun voices rows) (declare s)) (voice s)
+    → read_voice_record m voices rows bs ≡ if_passes (judged m (begun voices rows) (declare s)) (a_voice s)
 whole_voice m voices [] bs s e h f =
-    cond-false (ltb (length bs) 8) (fault 6 0 Sheet) (if_passes (judged m (begun voices []) (declare (from_le_bytes w64 (take 8 bs)))) (voice (from_le_bytes w64 (take 8 bs)))) (le-ltb (length bs) 8 h)
-    ∙ ap (λ (n : ℕ). if_passes (judged m (begun voices []) (declare n)) (voice n)) f
+    cond-false (ltb (length bs) 8) (fault 6 0 Sheet) (if_passes (judged m (begun voices []) (declare (from_le_bytes w64 (take 8 bs)))) (a_voice (from_le_bytes w64 (take 8 bs)))) (le-ltb (length bs) 8 h)
+    ∙ ap (λ (n : ℕ). if_passes (judged m (begun voices []) (declare n)) (a_voice n)) f
 whole_voice m voices (r ∷ rows) bs s e h f = absurd (omega arith)
 
 -- ---- any byte
 
 module _ (m : Meaning) (voices : List ℕ) (rows : List RowData) where
-  pub at_end : (b : ℕ) (bs : List ℕ) → b ≡ 0x5A → read_record m voices rows (b ∷ bs) ≡ read_end bs
-  at_end b bs e = cond-true (eqb b 0x5A) (read_end bs) (cond (eqb b 0x56) (read_voice m voices rows bs) (read_row m voices rows (b ∷ bs))) (eq-eqb b 0x5A e)
+  pub at_end : (b : ℕ) (bs : List ℕ) → b ≡ 0x5A → read_record m voices rows (b ∷ bs) ≡ read_end_record bs
+  at_end b bs e = cond-true (eqb b 0x5A) (read_end_record bs) (cond (eqb b 0x56) (read_voice_record m voices rows bs) (read_row_record m voices rows (b ∷ bs))) (eq-eqb b 0x5A e)
 
-  pub at_voice : (b : ℕ) (bs : List ℕ) → b ≡ 0x56 → read_record m voices rows (b ∷ bs) ≡ read_voice m voices rows bs
+  pub at_voice : (b : ℕ) (bs : List ℕ) → b ≡ 0x56 → read_record m voices rows (b ∷ bs) ≡ read_voice_record m voices rows bs
   at_voice b bs e =
-      cond-false (eqb b 0x5A) (read_end bs) (cond (eqb b 0x56) (read_voice m voices rows bs) (read_row m voices rows (b ∷ bs))) (ne_eqb b 0x5A (λ f. omega (arith, e, f)))
-      ∙ cond-true (eqb b 0x56) (read_voice m voices rows bs) (read_row m voices rows (b ∷ bs)) (eq-eqb b 0x56 e)
+      cond-false (eqb b 0x5A) (read_end_record bs) (cond (eqb b 0x56) (read_voice_record m voices rows bs) (read_row_record m voices rows (b ∷ bs))) (ne_eqb b 0x5A (λ f. omega (arith, e, f)))
+      ∙ cond-true (eqb b 0x56) (read_voice_record m voices rows bs) (read_row_record m voices rows (b ∷ bs)) (eq-eqb b 0x56 e)
 
-  pub at_row : (b : ℕ) (bs : List ℕ) → (b ≡ 0x5A → ⊥) → (b ≡ 0x56 → ⊥) → read_record m voices rows (b ∷ bs) ≡ read_row m voices rows (b ∷ bs)
+  pub at_row : (b : ℕ) (bs : List ℕ) → (b ≡ 0x5A → ⊥) → (b ≡ 0x56 → ⊥) → read_record m voices rows (b ∷ bs) ≡ read_row_record m voices rows (b ∷ bs)
   at_row b bs e f =
-      cond-false (eqb b 0x5A) (read_end bs) (cond (eqb b 0x56) (read_voice m voices rows bs) (read_row m voices rows (b ∷ bs))) (ne_eqb b 0x5A e)
-      ∙ cond-false (eqb b 0x56) (read_voice m voices rows bs) (read_row m voices rows (b ∷ bs)) (ne_eqb b 0x56 f)
+      cond-false (eqb b 0x5A) (read_end_record bs) (cond (eqb b 0x56) (read_voice_record m voices rows bs) (read_row_record m voices rows (b ∷ bs))) (ne_eqb b 0x5A e)
+      ∙ cond-false (eqb b 0x56) (read_voice_record m voices rows bs) (read_row_record m voices rows (b ∷ bs)) (ne_eqb b 0x56 f)
 
 -- ---- from an item back to the bytes
 
 abbrev IsRow : RecordReading → Type 0
 IsRow last = ⊥
-IsRow (voice s) = ⊥
-IsRow (row r) = Unit {0}
+IsRow (a_voice s) = ⊥
+IsRow (a_row r) = Unit {0}
 IsRow (fault n o l) = ⊥
 
 abbrev IsVoice : RecordReading → Type 0
 IsVoice last = ⊥
-IsVoice (voice s) = Unit {0}
-IsVoice (row r) = ⊥
+IsVoice (a_voice s) = Unit {0}
+IsVoice (a_row r) = ⊥
 IsVoice (fault n o l) = ⊥
 
 abbrev IsLast : RecordReading → Type 0
 IsLast last = Unit {0}
-IsLast (voice s) = ⊥
-IsLast (row r) = ⊥
+IsLast (a_voice s) = ⊥
+IsLast (a_row r) = ⊥
 IsLast (fault n o l) = ⊥
 
 -- a voice's record
@@ -97,40 +97,40 @@ pub record RowHere (m : Meaning) (voices : List ℕ) (rows : List RowData) (bs r
   pub front : r ≡ take (length r) bs
   pub passes : judged m (begun voices rows) (post r) ≡ Judgement.passes
 
-judged_voice : (j : Judgement) (x s : ℕ) → if_passes j (voice x) ≡ voice s → (j ≡ Judgement.passes) × (x ≡ s)
+judged_voice : (j : Judgement) (x s : ℕ) → if_passes j (a_voice x) ≡ a_voice s → (j ≡ Judgement.passes) × (x ≡ s)
 judged_voice Judgement.passes x s e = (refl, cc)
-judged_voice (Judgement.declined n) x s e = absurd (subst IsVoice (sym e) tt)
+judged_voice (Judgement.refused_by n) x s e = absurd (subst IsVoice (sym e) tt)
 
-judged_row : (j : Judgement) (x r : List ℕ) → if_passes j (row x) ≡ row r → (j ≡ Judgement.passes) × (x ≡ r)
+judged_row : (j : Judgement) (x r : List ℕ) → if_passes j (a_row x) ≡ a_row r → (j ≡ Judgement.passes) × (x ≡ r)
 judged_row Judgement.passes x r e = (refl, cc)
-judged_row (Judgement.declined n) x r e = absurd (subst IsRow (sym e) tt)
+judged_row (Judgement.refused_by n) x r e = absurd (subst IsRow (sym e) tt)
 
-no_voice : (j : Judgement) (x : List ℕ) (s : ℕ) → if_passes j (row x) ≡ voice s → ⊥
+no_voice : (j : Judgement) (x : List ℕ) (s : ℕ) → if_passes j (a_row x) ≡ a_voice s → ⊥
 no_voice Judgement.passes x s e = subst IsRow e tt
-no_voice (Judgement.declined n) x s e = subst IsVoice (sym e) tt
+no_voice (Judgement.refused_by n) x s e = subst IsVoice (sym e) tt
 
-no_row : (j : Judgement) (x : ℕ) (r : List ℕ) → if_passes j (voice x) ≡ row r → ⊥
+no_row : (j : Judgement) (x : ℕ) (r : List ℕ) → if_passes j (a_voice x) ≡ a_row r → ⊥
 no_row Judgement.passes x r e = subst IsVoice e tt
-no_row (Judgement.declined n) x r e = subst IsRow (sym e) tt
+no_row (Judgement.refused_by n) x r e = subst IsRow (sym e) tt
 
 never_last : (j : Judgement) (i : RecordReading) → (IsLast i → ⊥) → if_passes j i ≡ last → ⊥
 never_last Judgement.passes i h e = h (subst IsLast (sym e) tt)
-never_last (Judgement.declined n) i h e = subst IsLast (sym e) tt
+never_last (Judgement.refused_by n) i h e = subst IsLast (sym e) tt
 
-end_no_voice : (bs : List ℕ) (s : ℕ) → read_end bs ≡ voice s → ⊥
+end_no_voice : (bs : List ℕ) (s : ℕ) → read_end_record bs ≡ a_voice s → ⊥
 end_no_voice [] s e = subst IsLast e tt
 end_no_voice (b ∷ bs) s e = subst IsVoice (sym e) tt
 
-end_no_row : (bs r : List ℕ) → read_end bs ≡ row r → ⊥
+end_no_row : (bs r : List ℕ) → read_end_record bs ≡ a_row r → ⊥
 end_no_row [] r e = subst IsLast e tt
 end_no_row (b ∷ bs) r e = subst IsRow (sym e) tt
 
-last_end : (b : ℕ) (bs : List ℕ) → b ≡ 0x5A → read_end bs ≡ last → b ∷ bs ≡ 0x5A ∷ []
+last_end : (b : ℕ) (bs : List ℕ) → b ≡ 0x5A → read_end_record bs ≡ last → b ∷ bs ≡ 0x5A ∷ []
 last_end b [] k e = ap (λ (x : ℕ). x ∷ []) k
 last_end b (x ∷ bs) k e = absurd (subst IsLast (sym e) tt)
 
 module _ (m : Meaning) (voices : List ℕ) (rows : List RowData) where
-  read_voice_voice : (rs : List RowData) (bs : List ℕ) (s : ℕ) → read_voice m voices rs bs ≡ voice s
+  read_voice_voice : (rs : List RowData) (bs : List ℕ) (s : ℕ) → read_voice_record m voices rs bs ≡ a_voice s
       → (rs ≡ []) × (8 ≤ length bs) × (from_le_bytes w64 (take 8 bs) ≡ s) × (judged m (begun voices rs) (declare s) ≡ Judgement.passes)
   read_voice_voice [] bs s e =
       elim (cases_lt (length bs) 8) [
@@ -142,7 +142,7 @@ module _ (m : Meaning) (voices : List ℕ) (rows : List RowData) where
       ]
   read_voice_voice (r ∷ rs) bs s e = absurd (subst IsVoice (sym e) tt)
 
-  read_voice_no_row : (rs : List RowData) (bs r : List ℕ) → read_voice m voices rs bs ≡ row r → ⊥
+  read_voice_no_row : (rs : List RowData) (bs r : List ℕ) → read_voice_record m voices rs bs ≡ a_row r → ⊥
   read_voice_no_row [] bs r e =
       elim (cases_lt (length bs) 8) [
         | inl l ↦ subst IsRow (sym (sym (cut_voice m voices [] bs refl l) ∙ e)) tt
@@ -152,17 +152,17 @@ module _ (m : Meaning) (voices : List ℕ) (rows : List RowData) where
       ]
   read_voice_no_row (x ∷ rs) bs r e = subst IsRow (sym e) tt
 
-  read_voice_not_last : (rs : List RowData) (bs : List ℕ) → read_voice m voices rs bs ≡ last → ⊥
+  read_voice_not_last : (rs : List RowData) (bs : List ℕ) → read_voice_record m voices rs bs ≡ last → ⊥
   read_voice_not_last [] bs e =
       elim (cases_lt (length bs) 8) [
         | inl l ↦ subst IsLast (sym (sym (cut_voice m voices [] bs refl l) ∙ e)) tt
         | inr l ↦
             let x = from_le_bytes w64 (take 8 bs) in
-            never_last (judged m (begun voices []) (declare x)) (voice x) (λ z. z) (sym (whole_voice m voices [] bs x refl l refl) ∙ e)
+            never_last (judged m (begun voices []) (declare x)) (a_voice x) (λ z. z) (sym (whole_voice m voices [] bs x refl l refl) ∙ e)
       ]
   read_voice_not_last (x ∷ rs) bs e = subst IsLast (sym e) tt
 
-  pub voice_here : (bs : List ℕ) (s : ℕ) → read_record m voices rows bs ≡ voice s → VoiceHere m voices rows bs s
+  pub voice_here : (bs : List ℕ) (s : ℕ) → read_record m voices rows bs ≡ a_voice s → VoiceHere m voices rows bs s
   voice_here [] s e = absurd (subst IsVoice (sym e) tt)
   voice_here (b ∷ bs) s e =
       elim (cases_Bool (eqb b 0x5A)) [
@@ -178,7 +178,7 @@ module _ (m : Meaning) (voices : List ℕ) (rows : List RowData) where
         ]
       ]
 
-  pub row_here : (bs r : List ℕ) → read_record m voices rows bs ≡ row r → RowHere m voices rows bs r
+  pub row_here : (bs r : List ℕ) → read_record m voices rows bs ≡ a_row r → RowHere m voices rows bs r
   row_here [] r e = absurd (subst IsRow (sym e) tt)
   row_here (b ∷ bs) r e =
       elim (cases_Bool (eqb b 0x5A)) [
@@ -204,6 +204,6 @@ module _ (m : Meaning) (voices : List ℕ) (rows : List RowData) where
           | inl y ↦ absurd (read_voice_not_last rows bs (sym (at_voice m voices rows b bs (eqb-true b 0x56 y)) ∙ e))
           | inr y ↦
               let f = front_row m (b ∷ bs) in
-              absurd (never_last (judged m (begun voices rows) (post f)) (row f) (λ z. z) (sym (at_row m voices rows b bs (eqb-false b 0x5A x) (eqb-false b 0x56 y)) ∙ e))
+              absurd (never_last (judged m (begun voices rows) (post f)) (a_row f) (λ z. z) (sym (at_row m voices rows b bs (eqb-false b 0x5A x) (eqb-false b 0x56 y)) ∙ e))
         ]
       ]

@@ -15,8 +15,8 @@ use Rattle.sheets.specs.declared.refusal.RecordRefusal.{RecordRefusal}
 use Rattle.sheets.specs.declared.refusal.RecordRefusal.TheVariants.{ByTable}
 use Rattle.sheets.specs.Causes.{cause_number, cause_layer, cause_offset}
 use Rattle.sheets.specs.Reading.{RecordReading, if_passes, read_record, SheetReading, read_from, read_on, read_sheet}
-use Rattle.sheets.specs.Reading.RecordReading.{last, voice, row, fault}
-use Rattle.sheets.specs.Reading.SheetReading.{refused}
+use Rattle.sheets.specs.Reading.RecordReading.{last, a_voice, a_row, fault}
+use Rattle.sheets.specs.Reading.SheetReading.{faulty}
 use Rattle.sheets.specs.Loading.{RecordAnswer, record_answer, reading_record_answer, record_table, Unsearched, RecordStored, RecordRead, Fills, RecordsRead}
 use Rattle.sheets.specs.Loading.RecordAnswer.{sheet_end, record_length, record_fault}
 use Rattle.sheets.proofs.Records.{voice_here, row_here}
@@ -32,7 +32,7 @@ module _ (b : Behaviour) (m : Meaning) (t u : TableData) (v w : b.State) where
 
   -- it was refused
   turned_down : (j : Judgement) (i : RecordReading) (r : Result (Option ℕ) RecordRefusal) (refusal : Refusal) → Unsearched t → r ≡ Err (ByTable refusal)
-      → (j ≡ Judgement.declined (refusal_number refusal)) × (u ≡ t) × (w ≡ v) → RecordRead b m t v (if_passes j i) r u w
+      → (j ≡ Judgement.refused_by (refusal_number refusal)) × (u ≡ t) × (w ≡ v) → RecordRead b m t v (if_passes j i) r u w
   turned_down j i r refusal U e d =
       subst (λ (x : Judgement). RecordRead b m t v (if_passes x i) r u w) (sym d.0)
       (record { answer = ap record_answer e; table = d.1 ∙ U; store = d.2 })
@@ -45,38 +45,38 @@ posted_by : (b : Behaviour) (m : Meaning) (t u : TableData) (v w : b.State) (bs 
     → (judged m t (post bs) ≡ Judgement.passes) × (u ≡ begun t.voices (t.rows ++ (decode m bs ∷ []))) × b.empties v w
 posted_by b m t u v w bs (Does.posts bs' w' j e) = (j, refl, e)
 
-declare_declined : (b : Behaviour) (m : Meaning) (t u : TableData) (v w : b.State) (s n : ℕ) → Does b m t v (declare s) (Answer.refused n) u w
-    → (judged m t (declare s) ≡ Judgement.declined n) × (u ≡ t) × (w ≡ v)
-declare_declined b m t u v w s n (Does.declines c n' j) = (j, refl, refl)
+declare_refused : (b : Behaviour) (m : Meaning) (t u : TableData) (v w : b.State) (s n : ℕ) → Does b m t v (declare s) (Answer.refused n) u w
+    → (judged m t (declare s) ≡ Judgement.refused_by n) × (u ≡ t) × (w ≡ v)
+declare_refused b m t u v w s n (Does.refuses c n' j) = (j, refl, refl)
 
-post_declined : (b : Behaviour) (m : Meaning) (t u : TableData) (v w : b.State) (bs : List ℕ) (n : ℕ) → Does b m t v (post bs) (Answer.refused n) u w
-    → (judged m t (post bs) ≡ Judgement.declined n) × (u ≡ t) × (w ≡ v)
-post_declined b m t u v w bs n (Does.declines c n' j) = (j, refl, refl)
+post_refused : (b : Behaviour) (m : Meaning) (t u : TableData) (v w : b.State) (bs : List ℕ) (n : ℕ) → Does b m t v (post bs) (Answer.refused n) u w
+    → (judged m t (post bs) ≡ Judgement.refused_by n) × (u ≡ t) × (w ≡ v)
+post_refused b m t u v w bs n (Does.refuses c n' j) = (j, refl, refl)
 
 pub at_reading : (b : Behaviour) (m : Meaning) (t u : TableData) (v w : b.State) (i i' : RecordReading) (r : Result (Option ℕ) RecordRefusal) → i' ≡ i → RecordRead b m t v i r u w → RecordRead b m t v i' r u w
 at_reading b m t u v w i i' r e h = subst (λ (x : RecordReading). RecordRead b m t v x r u w) (sym e) h
 
 module _ (b : Behaviour) (m : Meaning) (t u : TableData) (v w : b.State) where
-  pub voice_declared : (s : ℕ) → Does b m t v (declare s) Answer.done u w → RecordRead b m t v (if_passes (judged m (begun t.voices t.rows) (declare s)) (voice s)) (Ok (Some 9)) u w
+  pub voice_declared : (s : ℕ) → Does b m t v (declare s) Answer.done u w → RecordRead b m t v (if_passes (judged m (begun t.voices t.rows) (declare s)) (a_voice s)) (Ok (Some 9)) u w
   voice_declared s D =
       let d = declared_by b m t u v w s D in
-      passed b m t u v w (judged m t (declare s)) (voice s) 9 d.0 refl d.1 d.2
+      passed b m t u v w (judged m t (declare s)) (a_voice s) 9 d.0 refl d.1 d.2
 
-  pub voice_declined : (s : ℕ) (r : Result (Option ℕ) RecordRefusal) (refusal : Refusal) → Unsearched t → r ≡ Err (ByTable refusal)
-      → Does b m t v (declare s) (Answer.refused (refusal_number refusal)) u w → RecordRead b m t v (if_passes (judged m (begun t.voices t.rows) (declare s)) (voice s)) r u w
-  voice_declined s r refusal U e D =
-      turned_down b m t u v w (judged m t (declare s)) (voice s) r refusal U e (declare_declined b m t u v w s (refusal_number refusal) D)
+  pub voice_refused : (s : ℕ) (r : Result (Option ℕ) RecordRefusal) (refusal : Refusal) → Unsearched t → r ≡ Err (ByTable refusal)
+      → Does b m t v (declare s) (Answer.refused (refusal_number refusal)) u w → RecordRead b m t v (if_passes (judged m (begun t.voices t.rows) (declare s)) (a_voice s)) r u w
+  voice_refused s r refusal U e D =
+      turned_down b m t u v w (judged m t (declare s)) (a_voice s) r refusal U e (declare_refused b m t u v w s (refusal_number refusal) D)
 
   pub row_posted : (bs : List ℕ) → Does b m t v (post bs) Answer.done u w
-      → RecordRead b m t v (if_passes (judged m (begun t.voices t.rows) (post bs)) (row bs)) (Ok (Some (length bs))) u w
+      → RecordRead b m t v (if_passes (judged m (begun t.voices t.rows) (post bs)) (a_row bs)) (Ok (Some (length bs))) u w
   row_posted bs D =
       let d = posted_by b m t u v w bs D in
-      passed b m t u v w (judged m t (post bs)) (row bs) (length bs) d.0 refl d.1 d.2
+      passed b m t u v w (judged m t (post bs)) (a_row bs) (length bs) d.0 refl d.1 d.2
 
-  pub row_declined : (bs : List ℕ) (r : Result (Option ℕ) RecordRefusal) (refusal : Refusal) → Unsearched t → r ≡ Err (ByTable refusal)
-      → Does b m t v (post bs) (Answer.refused (refusal_number refusal)) u w → RecordRead b m t v (if_passes (judged m (begun t.voices t.rows) (post bs)) (row bs)) r u w
-  row_declined bs r refusal U e D =
-      turned_down b m t u v w (judged m t (post bs)) (row bs) r refusal U e (post_declined b m t u v w bs (refusal_number refusal) D)
+  pub row_refused : (bs : List ℕ) (r : Result (Option ℕ) RecordRefusal) (refusal : Refusal) → Unsearched t → r ≡ Err (ByTable refusal)
+      → Does b m t v (post bs) (Answer.refused (refusal_number refusal)) u w → RecordRead b m t v (if_passes (judged m (begun t.voices t.rows) (post bs)) (a_row bs)) r u w
+  row_refused bs r refusal U e D =
+      turned_down b m t u v w (judged m t (post bs)) (a_row bs) r refusal U e (post_refused b m t u v w bs (refusal_number refusal) D)
 
 -- ---- the records so far
 
@@ -122,9 +122,9 @@ module _ (b : Behaviour) (m : Meaning) (bs : List ℕ) (w : b.State) (t : TableD
     where
       by : (i : RecordReading) → read_record m t.voices t.rows (drop at bs) ≡ i → record_length n ≡ reading_record_answer i → u ≡ record_table m t.voices t.rows i → RecordStored b i v x → Longer b m bs w u x at n
       by last e f g k = let z : ◌≡◌ {A = ℕ} 0 1 = cc in absurd (omega arith)
-      by (voice s) e f g k =
+      by (a_voice s) e f g k =
           let here = voice_here m t.voices t.rows (drop at bs) s e in
-          let rest = on (voice s) e in
+          let rest = on (a_voice s) e in
           let nine : n ≡ 9 = cc in
           let next : Longer b m bs w (begun (t.voices ++ (s ∷ [])) t.rows) x at 9 =
           record {
@@ -142,9 +142,9 @@ module _ (b : Behaviour) (m : Meaning) (bs : List ℕ) (w : b.State) (t : TableD
             };
           } in
           subst (λ (y : ℕ). Longer b m bs w u x at y) (sym nine) (subst (λ (y : TableData). Longer b m bs w y x at 9) (sym g) next)
-      by (row r) e f g k =
+      by (a_row r) e f g k =
           let here = row_here m t.voices t.rows (drop at bs) r e in
-          let rest = on (row r) e in
+          let rest = on (a_row r) e in
           let long : n ≡ length r = cc in
           let next : Longer b m bs w (begun t.voices (t.rows ++ (decode m r ∷ []))) x at (length r) =
           record {
@@ -174,8 +174,8 @@ module _ (b : Behaviour) (m : Meaning) (bs : List ℕ) (w : b.State) (t : TableD
           let rest = on last e in
           subst (λ (o : SheetReading). RecordsRead b m bs w u x o (Ok tt)) rest.2
           (RecordsRead.ended t.voices t.rows g (subst (Fills b m w t.voices t.rows) (sym k) S.read.fills))
-      by (voice s) e f g k = let z : ◌≡◌ {A = ℕ} 0 1 = cc in absurd (omega arith)
-      by (row r) e f g k = let z : ◌≡◌ {A = ℕ} 0 1 = cc in absurd (omega arith)
+      by (a_voice s) e f g k = let z : ◌≡◌ {A = ℕ} 0 1 = cc in absurd (omega arith)
+      by (a_row r) e f g k = let z : ◌≡◌ {A = ℕ} 0 1 = cc in absurd (omega arith)
       by (fault k' o l) e f g k = let z : ◌≡◌ {A = ℕ} 0 1 = cc in absurd (omega arith)
 
   pub faulted : Laws m → (cause : RecordRefusal) (place : ℕ) (u : TableData) (x : b.State) → place ≡ at + cause_offset cause
@@ -187,15 +187,15 @@ module _ (b : Behaviour) (m : Meaning) (bs : List ℕ) (w : b.State) (t : TableD
           → u ≡ record_table m t.voices t.rows i → RecordStored b i v x
           → RecordsRead b m bs w u x (read_sheet m bs) (Err (record { cause = cause; place = place }))
       by last e f g k = let z : ◌≡◌ {A = ℕ} 0 1 = cc in absurd (omega arith)
-      by (voice s) e f g k = let z : ◌≡◌ {A = ℕ} 0 1 = cc in absurd (omega arith)
-      by (row r) e f g k = let z : ◌≡◌ {A = ℕ} 0 1 = cc in absurd (omega arith)
+      by (a_voice s) e f g k = let z : ◌≡◌ {A = ℕ} 0 1 = cc in absurd (omega arith)
+      by (a_row r) e f g k = let z : ◌≡◌ {A = ℕ} 0 1 = cc in absurd (omega arith)
       by (fault n o y) e f g k =
           let rest = on (fault n o y) e in
           let is : fault n o y ≡ fault (cause_number cause) (cause_offset cause) (cause_layer cause) = ap back (sym f) in
           let first = fault_at m L bs at t.voices t.rows (drop at bs) (cause_number cause) (cause_offset cause) (cause_layer cause) S.bare_read (e ∙ is) in
-          let here : RecordsRead b m bs w u x (refused (cause_number cause) (at + cause_offset cause) (cause_layer cause)) (Err (record { cause = cause; place = at + cause_offset cause })) =
+          let here : RecordsRead b m bs w u x (faulty (cause_number cause) (at + cause_offset cause) (cause_layer cause)) (Err (record { cause = cause; place = at + cause_offset cause })) =
           RecordsRead.faulted cause (at + cause_offset cause) first g (subst (Fills b m w t.voices t.rows) (sym k) S.read.fills) in
-          let come : refused (cause_number cause) (at + cause_offset cause) (cause_layer cause) ≡ read_sheet m bs =
+          let come : faulty (cause_number cause) (at + cause_offset cause) (cause_layer cause) ≡ read_sheet m bs =
           ap (read_on m (read_from m rest.0) at t.voices t.rows (drop at bs)) (sym is) ∙ rest.2 in
           subst₂ (λ (o : SheetReading) (q : ℕ). RecordsRead b m bs w u x o (Err (record { cause = cause; place = q }))) come (sym p) here
         where

@@ -11,7 +11,7 @@ use Rattle.search.specs.Results.{Limited}
 use Rattle.sheets.specs.declared.refusal.Layer.{Layer}
 use Rattle.sheets.specs.Sheets.{records, sheet}
 use Rattle.sheets.specs.Reading.{RecordReading, read_record, read_sheet}
-use Rattle.sheets.specs.Reading.SheetReading.{accepted, refused}
+use Rattle.sheets.specs.Reading.SheetReading.{accepted, faulty}
 
 -- voices and rows that a table can have: within its limits, and the bank accepts each row
 pub record Holdable (m : Meaning) (voices : List ℕ) (rows : List RowData) : Type 0 where
@@ -40,7 +40,7 @@ pub record SheetLawsHold (m : Meaning) : Type 0 where
       → read_sheet m bs ≡ accepted voices rows
       → Holdable m voices rows × (sheet voices rows ≡ bs)
   pub first_fault : (bs : List ℕ) → Bytes bs → (number place : ℕ) (layer : Layer)
-      → read_sheet m bs ≡ refused number place layer
+      → read_sheet m bs ≡ faulty number place layer
       → FirstFault m bs number place layer
 
 abbrev pub OneSheetATable : Type 0

@@ -18,33 +18,33 @@ use Rattle.sheets.specs.declared.refusal.SheetRefusal.{SheetRefusal}
 use Rattle.sheets.specs.Causes.{cause_number, cause_layer, cause_offset}
 use Rattle.sheets.specs.Sheets.{sheet}
 use Rattle.sheets.specs.Reading.{RecordReading, SheetReading, read_sheet}
-use Rattle.sheets.specs.Reading.RecordReading.{last, voice, row, fault}
-use Rattle.sheets.specs.Reading.SheetReading.{accepted, refused}
+use Rattle.sheets.specs.Reading.RecordReading.{last, a_voice, a_row, fault}
+use Rattle.sheets.specs.Reading.SheetReading.{accepted, faulty}
 use Rattle.sheets.specs.Laws.{FirstFault, declared_after, posted_after}
 
 -- ---- answers
 
 -- accepted, or refused: under which number, at which place and by which layer
 pub data LoadAnswer : Type 0 where
-  loaded : LoadAnswer
-  declined : ℕ → ℕ → Layer → LoadAnswer
+  sheet_loaded : LoadAnswer
+  sheet_fault : ℕ → ℕ → Layer → LoadAnswer
 
 -- the code's answer
 abbrev pub load_answer : Result Unit SheetRefusal → LoadAnswer
-load_answer (Ok x) = loaded
-load_answer (Err f) = declined (cause_number f.cause) f.place (cause_layer f.cause)
+load_answer (Ok x) = sheet_loaded
+load_answer (Err f) = sheet_fault (cause_number f.cause) f.place (cause_layer f.cause)
 
 -- the answer that a sheet must have
 abbrev pub reading_answer : SheetReading → LoadAnswer
-reading_answer (accepted voices rows) = loaded
-reading_answer (refused number place layer) = declined number place layer
+reading_answer (accepted voices rows) = sheet_loaded
+reading_answer (faulty number place layer) = sheet_fault number place layer
 
 -- ---- what a Load leaves
 
 -- the table that a Load leaves: its search has not begun; after a refused one it is empty
 abbrev pub table_after : SheetReading → TableData
 table_after (accepted voices rows) = begun voices rows
-table_after (refused n place layer) = empty
+table_after (faulty n place layer) = empty
 
 -- After the calls h, over a store that was in the state g when the table was made, the records of a
 -- sheet that is read as this have led to the table u and the state r: by its Declares and Posts,
@@ -54,7 +54,7 @@ abbrev pub FillHistory : (b : Behaviour) (m : Meaning) (g : b.State) (h : List (
     (bytes : List ℕ) → SheetReading → TableData → b.State → Type 0
 FillHistory b m g h bytes (accepted voices rows) u r =
     LeadsTo b m g (posted_after (declared_after h voices) rows) u r 0
-FillHistory b m g h bytes (refused number place layer) u r =
+FillHistory b m g h bytes (faulty number place layer) u r =
     (first : FirstFault m bytes number place layer)
     × LeadsTo b m g ((wipe, done) ∷ posted_after (declared_after h first.voices) first.rows) u r 0
 
@@ -93,7 +93,7 @@ pub record LoadExtends (b : Behaviour) (m : Meaning) (t : TableData) (s : b.Stat
 -- `saved` is the sheet of the table then: where the bytes are accepted, it is these bytes
 abbrev pub LoadBack : SheetReading → List ℕ → List ℕ → Type 0
 LoadBack (accepted voices rows) bytes saved = saved ≡ bytes
-LoadBack (refused number place layer) bytes saved = Unit {0}
+LoadBack (faulty number place layer) bytes saved = Unit {0}
 
 -- A new table over a store that was in this state, and the answer of its Load: the one that the
 -- sheet must have, the table as a Load leaves it, and, where the sheet was accepted, the bytes as
@@ -120,15 +120,15 @@ record_answer (Err c) = record_fault (cause_number c) (cause_offset c) (cause_la
 
 abbrev pub reading_record_answer : RecordReading → RecordAnswer
 reading_record_answer last = sheet_end
-reading_record_answer (voice s) = record_length 9
-reading_record_answer (row r) = record_length (length r)
+reading_record_answer (a_voice s) = record_length 9
+reading_record_answer (a_row r) = record_length (length r)
 reading_record_answer (fault number offset layer) = record_fault number offset layer
 
 -- the table after a record, where it had these voices and rows
 abbrev pub record_table : Meaning → List ℕ → List RowData → RecordReading → TableData
 record_table m voices rows last = begun voices rows
-record_table m voices rows (voice s) = begun (voices ++ (s ∷ [])) rows
-record_table m voices rows (row r) = begun voices (rows ++ (decode m r ∷ []))
+record_table m voices rows (a_voice s) = begun (voices ++ (s ∷ [])) rows
+record_table m voices rows (a_row r) = begun voices (rows ++ (decode m r ∷ []))
 record_table m voices rows (fault number offset layer) = begun voices rows
 
 -- a table whose search has not begun
@@ -138,8 +138,8 @@ Unsearched t = t ≡ begun t.voices t.rows
 -- the store after a record: an accepted Declare or Post empties it
 abbrev pub RecordStored : (b : Behaviour) → RecordReading → b.State → b.State → Type 0
 RecordStored b last s r = r ≡ s
-RecordStored b (voice x) s r = b.empties s r
-RecordStored b (row bs) s r = b.empties s r
+RecordStored b (a_voice x) s r = b.empties s r
+RecordStored b (a_row bs) s r = b.empties s r
 RecordStored b (fault number offset layer) s r = r ≡ s
 
 -- a record is read: the answer, and the table and the store then
@@ -168,5 +168,5 @@ pub data RecordsRead (b : Behaviour) (m : Meaning) (bytes : List ℕ) (s : b.Sta
       (first : FirstFault m bytes (cause_number cause) place (cause_layer cause))
       → u ≡ begun first.voices first.rows
       → Fills b m s first.voices first.rows r
-      → RecordsRead b m bytes s u r (refused (cause_number cause) place (cause_layer cause))
+      → RecordsRead b m bytes s u r (faulty (cause_number cause) place (cause_layer cause))
       (Err (record { cause = cause; place = place }))

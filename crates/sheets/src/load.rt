@@ -2,7 +2,7 @@
 ghost use Rattle.std.specs.Prelude.{◌≡◌, true, false, is_err, IfOk};
 ghost use Rattle.search.specs.Calls.{empty, Call, Answer};
 ghost use Rattle.table.specs.Shown.{model, store_in, CallDone};
-ghost use Rattle.sheets.specs.Reading.{front_row, read_voice, read_row, read_record, read_sheet};
+ghost use Rattle.sheets.specs.Reading.{front_row, read_voice_record, read_row_record, read_record, read_sheet};
 ghost use Rattle.sheets.specs.Loading.{load_answer, reading_answer, table_after, FillExtends, LoadsNew, LoadLeaves, LoadBack, LoadExtends, Unsearched, RecordRead, RecordsRead};
 ghost use Rattle.sheets.specs.Saving.{sheet_of};
 
@@ -35,13 +35,13 @@ fn front_row<B: Bank>(bytes: &[u8]) -> &[u8]
 
 // Declares the voice whose record, after its first byte, is at the front. Returns the record's
 // length.
-fn read_voice<B: Bank, S: Store>(
+fn read_voice_record<B: Bank, S: Store>(
     table: &mut Table<B, S>,
     rest: &[u8],
 ) -> Result<Option<usize>, RecordRefusal>
     requires { Unsearched (model table.old) }
     ensures { RecordRead S.Store.behaviour B.Bank.meaning (model table.old) (store_in table.old)
-        (read_voice B.Bank.meaning (model table.old).voices (model table.old).rows rest.now)
+        (read_voice_record B.Bank.meaning (model table.old).voices (model table.old).rows rest.now)
         result (model table.new) (store_in table.new) }
 {
     if !table.rows().is_empty() {
@@ -55,13 +55,13 @@ fn read_voice<B: Bank, S: Store>(
 }
 
 // Posts the row at the front, and returns its length.
-fn read_row<B: Bank, S: Store>(
+fn read_row_record<B: Bank, S: Store>(
     table: &mut Table<B, S>,
     bytes: &[u8],
 ) -> Result<Option<usize>, RecordRefusal>
     requires { Unsearched (model table.old) }
     ensures { RecordRead S.Store.behaviour B.Bank.meaning (model table.old) (store_in table.old)
-        (read_row B.Bank.meaning (model table.old).voices (model table.old).rows bytes.now)
+        (read_row_record B.Bank.meaning (model table.old).voices (model table.old).rows bytes.now)
         result (model table.new) (store_in table.new) }
 {
     let row = front_row::<B>(bytes);
@@ -84,8 +84,8 @@ fn read_record<B: Bank, S: Store>(
         [] => Err(RecordRefusal::NoRecord),
         [END_MARK] => Ok(None),
         [END_MARK, ..] => Err(RecordRefusal::Trailing),
-        [VOICE_MARK, rest @ ..] => read_voice(table, rest),
-        _ => read_row(table, bytes),
+        [VOICE_MARK, rest @ ..] => read_voice_record(table, rest),
+        _ => read_row_record(table, bytes),
     }
 }
 
@@ -113,7 +113,7 @@ fn read_records<B: Bank, S: Store>(
 
 // Leaves no voices and no rows where the sheet was refused.
 fn wipe_refused<B: Bank, S: Store>(table: &mut Table<B, S>, res: &Result<(), SheetRefusal>)
-    ensures declined { is_err res.now ≡ true → CallDone table.old Call.wipe Answer.done table.new }
+    ensures refused { is_err res.now ≡ true → CallDone table.old Call.wipe Answer.done table.new }
     ensures accepted { is_err res.now ≡ false → table.new ≡ table.old }
 {
     if res.is_err() {

@@ -7,7 +7,7 @@ use Rattle.std.specs.Str.{bytes_eq}
 use Rattle.sets.specs.Placings.{same}
 use Rattle.stores.specs.Stores.{is_held, fits_space}
 use Rattle.stores.specs.Shelves.{hash_of, bucket, header, words_of, newest, shelf_entry, words_written, keys_in, shelved_keys, recent_keys, Whole, Indexed, room_of, shelf_state, shelf_view}
-use Rattle.stores.specs.ShelfLaws.{member_push}
+use Rattle.stores.specs.ShelfLaws.{held_push}
 use Rattle.stores.proofs.Keeping.{Fitting, fitting, pushed_state}
 use Rattle.sets.proofs.Lists.{same_is}
 
@@ -135,9 +135,9 @@ recent_push ws k w h = ap reverse (shelved_push ws k w h) ∙ reverse_push (shel
 pub whole_push : (ws k : List ℕ) → Whole ws → length k < 65536 → Whole (ws ++ shelf_entry (recent_keys ws) k)
 whole_push ws k w h = ap words_written (recent_push ws k w h) ∙ ap (λ (x : List ℕ). x ++ shelf_entry (recent_keys ws) k) w
 
-member_reverse : (x : List ℕ) (ks : List (List ℕ)) → is_held x (reverse ks) ≡ is_held x ks
-member_reverse x [] = refl
-member_reverse x (k ∷ ks) = ap (is_held x) (reverse_more ks k) ∙ member_push x k (reverse ks) ∙ ap (λ (b : Bool). same x k || b) (member_reverse x ks)
+held_reverse : (x : List ℕ) (ks : List (List ℕ)) → is_held x (reverse ks) ≡ is_held x ks
+held_reverse x [] = refl
+held_reverse x (k ∷ ks) = ap (is_held x) (reverse_more ks k) ∙ held_push x k (reverse ks) ∙ ap (λ (b : Bool). same x k || b) (held_reverse x ks)
 
 -- ---- the chain of a bucket
 
@@ -161,7 +161,7 @@ pub record Newest (b : ℕ) (ks : List (List ℕ)) : Type 0 where
   pub rest : List ℕ
   pub place : newest b ks ≡ words_of before + 1
   pub words : words_written ks ≡ (words_written before ++ (header (newest b before) key ∷ key)) ++ rest
-  pub members : (x : List ℕ) → bucket x ≡ b → is_held x ks ≡ (same x key || is_held x before)
+  pub holds : (x : List ℕ) → bucket x ≡ b → is_held x ks ≡ (same x key || is_held x before)
   pub short : length key < 65536
   pub shorts : Short before
 
@@ -179,7 +179,7 @@ newest_key b (k ∷ ks) s h = by_bucket (eqb (bucket k) b) refl (newest_key b ks
       rest = [];
       place = ap (λ (c : Bool). cond c (words_of ks + 1) (newest b ks)) e;
       words = ap (λ (n : ℕ). words_written ks ++ (header (newest n ks) k ∷ k)) (eqb-true (bucket k) b e) ∙ sym (append-nil (words_written ks ++ (header (newest b ks) k ∷ k)));
-      members = λ x d. refl;
+      holds = λ x d. refl;
       short = s.0;
       shorts = s.1;
     }
@@ -191,7 +191,7 @@ newest_key b (k ∷ ks) s h = by_bucket (eqb (bucket k) b) refl (newest_key b ks
           rest = n.rest ++ shelf_entry ks k;
           place = at ∙ n.place;
           words = ap (λ (x : List ℕ). x ++ shelf_entry ks k) n.words ∙ append_assoc (words_written n.before ++ (header (newest b n.before) n.key ∷ n.key)) n.rest (shelf_entry ks k);
-          members = λ x d. ap (λ (c : Bool). c || is_held x ks) (other_bucket x k b d e) ∙ n.members x d;
+          holds = λ x d. ap (λ (c : Bool). c || is_held x ks) (other_bucket x k b d e) ∙ n.holds x d;
           short = n.short;
           shorts = n.shorts;
         }
@@ -214,7 +214,7 @@ pub record Walk (used key : List ℕ) (at : ℕ) : Type 0 where
   pub place : at ≡ newest (bucket key) older
   pub words : used ≡ words_written older ++ rest
   pub shorts : Short older
-  pub members : is_held key (shelved_keys used) ≡ is_held key older
+  pub holds : is_held key (shelved_keys used) ≡ is_held key older
 
 pub walk_begins : (used key : List ℕ) (at : ℕ) → Whole used → at ≡ newest (bucket key) (recent_keys used) → Walk used key at
 walk_begins used key at w e = record {
@@ -223,11 +223,11 @@ walk_begins used key at w e = record {
   place = e;
   words = sym (append-nil (words_written (recent_keys used)) ∙ w);
   shorts = recent_short used;
-  members = sym (member_reverse key (shelved_keys used));
+  holds = sym (held_reverse key (shelved_keys used));
 }
 
 pub walk_ends : (used key : List ℕ) (at : ℕ) → Walk used key at → at ≤ 0 → false ≡ is_held key (shelved_keys used)
-walk_ends used key at w h = sym (w.members ∙ no_newest key w.older (omega (arith, w.place)))
+walk_ends used key at w h = sym (w.holds ∙ no_newest key w.older (omega (arith, w.place)))
 
 -- the key that a walk stands at, in all the words of which the first n are used
 pub record Stop (all : List ℕ) (n : ℕ) (key : List ℕ) (at : ℕ) : Type 0 where
@@ -249,14 +249,14 @@ walk_stops all n key at l r w h = record {
   lower = lower;
   inside = inside;
   words = ap (λ (x : List ℕ). take (length s.key) x) behind ∙ take_at s.key more (length s.key) refl;
-  found = λ e. sym (members ∙ ap (λ (b : Bool). b || is_held key s.before) e);
+  found = λ e. sym (holds ∙ ap (λ (b : Bool). b || is_held key s.before) e);
   next = λ e. record {
     older = s.before;
     rest = (header (newest (bucket key) s.before) s.key ∷ s.key) ++ (s.rest ++ w.rest);
     place = refl;
     words = front;
     shorts = s.shorts;
-    members = members ∙ ap (λ (b : Bool). b || is_held key s.before) e;
+    holds = holds ∙ ap (λ (b : Bool). b || is_held key s.before) e;
   };
 }
   where
@@ -275,8 +275,8 @@ walk_stops all n key at l r w h = record {
     more : List ℕ
     more = (s.rest ++ w.rest) ++ drop n all
 
-    members : is_held key (shelved_keys (take n all)) ≡ (same key s.key || is_held key s.before)
-    members = w.members ∙ s.members key refl
+    holds : is_held key (shelved_keys (take n all)) ≡ (same key s.key || is_held key s.before)
+    holds = w.holds ∙ s.holds key refl
 
     front : take n all ≡ words_written s.before ++ ((h0 ∷ s.key) ++ (s.rest ++ w.rest))
     front = w.words ∙ ap (λ (x : List ℕ). x ++ w.rest) s.words

@@ -13,9 +13,9 @@ use Rattle.stores.specs.declared.store.Stored.TheVariants.{Kept, Lost}
 
 -- ---- one key more, behind the others
 
-pub member_push : (x k : List ℕ) (ks : List (List ℕ)) → is_held x (ks ++ (k ∷ [])) ≡ (same x k || is_held x ks)
-member_push x k [] = refl
-member_push x k (y ∷ ks) = ap (λ (b : Bool). same x y || b) (member_push x k ks) ∙ swap (same x y) (same x k) (is_held x ks)
+pub held_push : (x k : List ℕ) (ks : List (List ℕ)) → is_held x (ks ++ (k ∷ [])) ≡ (same x k || is_held x ks)
+held_push x k [] = refl
+held_push x k (y ∷ ks) = ap (λ (b : Bool). same x y || b) (held_push x k ks) ∙ swap (same x y) (same x k) (is_held x ks)
   where
     swap : (a b c : Bool) → (a || (b || c)) ≡ (b || (a || c))
     swap true true c = refl
@@ -34,7 +34,7 @@ distinct_push k (x ∷ ks) m d =
     let a = or_parts (same k x) (is_held k ks) m in
     let e = and_parts (not (is_held x ks)) (distinct_keys ks) d in
     ap₂ (λ (p q : Bool). not p && q)
-    (member_push x k ks ∙ ap (λ (p : Bool). p || is_held x ks) (same_other x k a.0))
+    (held_push x k ks ∙ ap (λ (p : Bool). p || is_held x ks) (same_other x k a.0))
     (distinct_push k ks a.1 e.1)
     ∙ ap (λ (p : Bool). p && true) e.0
 
@@ -42,11 +42,11 @@ distinct_push k (x ∷ ks) m d =
 
 keeps_by : (s : ShelfState) (k : List ℕ) (held room : Bool) → is_held k s.held ≡ held → fits_space (length k) (shelf_view s).space ≡ room
     → Keeps (shelf_view s) k (cond held Kept (cond room Kept Lost)) (shelf_view (cond held s (cond room (record { held = s.held ++ (k ∷ []); room = s.room }) s)))
-keeps_by s k true room m f = Keeps.again m
+keeps_by s k true room m f = Keeps.held_already m
 keeps_by s k false true m f =
     Keeps.joins (shelf_view (record { held = s.held ++ (k ∷ []); room = s.room })) m f
-    (record { members = λ x. member_push x k s.held; count = length-append s.held (k ∷ []); distinct = distinct_push k s.held m })
-keeps_by s k false false m f = Keeps.loses (shelf_view s) m f (λ x h. or_right (same x k) (is_held x s.held) h) (λ h. h) (λ _. refl)
+    (record { holds = λ x. held_push x k s.held; count = length-append s.held (k ∷ []); distinct = distinct_push k s.held m })
+keeps_by s k false false m f = Keeps.no_space (shelf_view s) m f (λ x h. or_right (same x k) (is_held x s.held) h) (λ h. h) (λ _. refl)
 
 pub shelf_keeps_lawfully : (s t : ShelfState) (k : List ℕ) (a : Stored) → (a ≡ shelf_answer s k) × (t ≡ shelf_after s k) → Keeps (shelf_view s) k a (shelf_view t)
 shelf_keeps_lawfully s t k a h =

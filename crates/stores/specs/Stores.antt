@@ -29,7 +29,7 @@ fits_space words space = nat_lt 0 words && nat_le words space
 
 -- the keys of w are those of v and k, which v does not hold
 pub record Joined (v : View) (k : List ℕ) (w : View) : Type 0 where
-  pub members : (x : List ℕ) → is_held x w.held ≡ (same x k || is_held x v.held)
+  pub holds : (x : List ℕ) → is_held x w.held ≡ (same x k || is_held x v.held)
   pub count : length w.held ≡ length v.held + 1
   pub distinct : distinct_keys v.held ≡ true → distinct_keys w.held ≡ true
 
@@ -37,13 +37,13 @@ pub record Joined (v : View) (k : List ℕ) (w : View) : Type 0 where
 -- lost, and the space that is left then or after joining.
 pub data Keeps (v : View) (k : List ℕ) : Stored → View → Type 0 where
   -- held already: nothing moves
-  again : is_held k v.held ≡ true → Keeps v k Kept v
+  held_already : is_held k v.held ≡ true → Keeps v k Kept v
   -- it fits: it joins the others
   joins : (w : View) → is_held k v.held ≡ false → fits_space (length k) v.space ≡ true
       → Joined v k w → Keeps v k Kept w
   -- it does not fit: what is held is part of the old keys and the new one; a key of no words alters
   -- nothing
-  loses : (w : View) → is_held k v.held ≡ false → fits_space (length k) v.space ≡ false
+  no_space : (w : View) → is_held k v.held ≡ false → fits_space (length k) v.space ≡ false
       → ((x : List ℕ) → is_held x w.held ≡ true → (same x k || is_held x v.held) ≡ true)
       → (distinct_keys v.held ≡ true → distinct_keys w.held ≡ true) → (length k ≡ 0 → w ≡ v)
       → Keeps v k Lost w

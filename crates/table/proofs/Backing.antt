@@ -23,9 +23,9 @@ module _ (st : Behaviour) (m : Meaning) (rows : List RowData) where
   more : (start : List Level) (v : st.State) (l : Level) (ls : List Level) (w x : st.State) (n k : ℕ) (r : Stored) → k ≡ n + 1 → eqb l.left 0 ≡ true
       → st.keeps w (key m rows l.sets) r x → Behind st m rows start v (l ∷ ls) w n → Behind st m rows start v ls x k
   more start v l ls w x n k Kept e z h b =
-      record { lost = b.lost; carry = λ p u a c t. recount (omega arith) refl (b.carry p u (suc a) c (BacksUp.keeps l ls w x u p a c z h t)) }
+      record { lost = b.lost; carry = λ p u a c t. recount (omega arith) refl (b.carry p u (suc a) c (BacksUp.key_kept l ls w x u p a c z h t)) }
   more start v l ls w x n k Lost e z h b =
-      record { lost = suc b.lost; carry = λ p u a c t. recount (omega arith) (omega arith) (b.carry p u (suc a) (suc c) (BacksUp.loses l ls w x u p a c z h t)) }
+      record { lost = suc b.lost; carry = λ p u a c t. recount (omega arith) (omega arith) (b.carry p u (suc a) (suc c) (BacksUp.key_lost l ls w x u p a c z h t)) }
 
   -- the newest level is exhausted, and its key went to the store
   pub behind_more : (start : List Level) (v : st.State) (ls : List Level) (w x : st.State) (i k : ℕ) (r : Stored) → is_spent ls ≡ true → k ≡ i + 1
@@ -34,8 +34,8 @@ module _ (st : Behaviour) (m : Meaning) (rows : List RowData) where
   behind_more start v (l ∷ ls) w x i k r z e h b = more start v l ls w x i k r e z h b
 
   stops : (ls : List Level) (w : st.State) → is_spent ls ≡ false → BacksUp st m rows ls w (place_backed_up ls) w 0 0
-  stops [] w z = BacksUp.root w
-  stops (l ∷ ls) w z = BacksUp.next l ls w z
+  stops [] w z = BacksUp.at_root w
+  stops (l ∷ ls) w z = BacksUp.goes_on l ls w z
 
   -- no level is left, or the newest has a value left to try
   pub backed : (start : List Level) (v : st.State) (ls : List Level) (w : st.State) (n : ℕ) → is_spent ls ≡ false → Behind st m rows start v ls w n → Backed st m rows start v ls w n

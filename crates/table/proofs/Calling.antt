@@ -8,7 +8,7 @@ use Rattle.rows.specs.Laws.{Laws}
 use Rattle.rows.specs.Bytes.{decode}
 use Rattle.stores.specs.Behaviours.{Behaviour}
 use Rattle.search.specs.Search.{Level, Place}
-use Rattle.search.specs.Search.Place.{fresh, going, found, none}
+use Rattle.search.specs.Search.Place.{fresh, going, solved, unsolvable}
 use Rattle.rows.specs.Reasons.{Judgement}
 use Rattle.search.specs.Calls.{TableData, begun, Call, Answer, Formed, judged, is_found, result, place_answer, Does}
 use Rattle.search.specs.Calls.Call.{declare, post, solve, read, wipe}
@@ -64,20 +64,20 @@ begun_table voices rows n s b =
 
 -- ---- what the calls do
 
-pub declines_by : (st : Behaviour) (m : Meaning) (t : TableData) (v : st.State) (c : Call) (n : ℕ) → judged m t c ≡ Judgement.declined n → Does st m t v c (Answer.refused n) t v
-declines_by st m t v c n e = Does.declines c n e
+pub refuses_by : (st : Behaviour) (m : Meaning) (t : TableData) (v : st.State) (c : Call) (n : ℕ) → judged m t c ≡ Judgement.refused_by n → Does st m t v c (Answer.refused n) t v
+refuses_by st m t v c n e = Does.refuses c n e
 
--- what holds anyway holds where a call is declined
+-- what holds anyway holds where a call is refused
 pub on_err : {P : Type 0} (r : Result (Unit {0}) Refusal) → P → OnErr r P
 on_err (Ok x) p = tt
 on_err (Err refusal) p = p
 
--- declined, with a row written beyond the table's own
-pub declines_kept : (st : Behaviour) (m : Meaning) (voices : List ℕ) (rows rows' : List RowData) (s : Search) (v : st.State) (c : Call) (n : ℕ) (a : Answer) → rows' ≡ rows → a ≡ Answer.refused n
-    → judged m (table_of voices rows s) c ≡ Judgement.declined n → Does st m (table_of voices rows s) v c a (table_of voices rows' s) v
-declines_kept st m voices rows rows' s v c n a e f g =
+-- refused, with a row written beyond the table's own
+pub refuses_kept : (st : Behaviour) (m : Meaning) (voices : List ℕ) (rows rows' : List RowData) (s : Search) (v : st.State) (c : Call) (n : ℕ) (a : Answer) → rows' ≡ rows → a ≡ Answer.refused n
+    → judged m (table_of voices rows s) c ≡ Judgement.refused_by n → Does st m (table_of voices rows s) v c a (table_of voices rows' s) v
+refuses_kept st m voices rows rows' s v c n a e f g =
     subst (λ (x : List RowData). Does st m (table_of voices rows s) v c a (table_of voices x s) v) (sym e)
-    (subst (λ (x : Answer). Does st m (table_of voices rows s) v c x (table_of voices rows s) v) (sym f) (declines_by st m (table_of voices rows s) v c n g))
+    (subst (λ (x : Answer). Does st m (table_of voices rows s) v c x (table_of voices rows s) v) (sym f) (refuses_by st m (table_of voices rows s) v c n g))
 
 pub declares_by : (st : Behaviour) (m : Meaning) (voices voices' : List ℕ) (rows : List RowData) (s s' : Search) (v w : st.State) (x n : ℕ) → voices' ≡ voices ++ (x ∷ []) → Begun n s'
     → judged m (table_of voices rows s) (declare x) ≡ Judgement.passes → st.empties v w
@@ -108,8 +108,8 @@ made_by st m voices s g w n e b h =
 outcome_says : (p : Place) → outcome_answer (outcome_of p) (result p) ≡ place_answer p
 outcome_says fresh = refl
 outcome_says (going l ls) = refl
-outcome_says (found p) = refl
-outcome_says none = refl
+outcome_says (solved p) = refl
+outcome_says unsolvable = refl
 
 pub solves_by : (st : Behaviour) (m : Meaning) (voices : List ℕ) (rows : List RowData) (s s' : Search) (v w : st.State) (b : ℕ) (o : Outcome) → o ≡ outcome_of (place_in s')
     → judged m (table_of voices rows s) (solve b) ≡ Judgement.passes → Runs st m b (table_of voices rows s) v (table_of voices rows s') w
@@ -131,20 +131,20 @@ opens_within st {m} r =
 stopped_not : (p : Place) → out.Stopped ≡ outcome_of p → is_found p ≡ false
 stopped_not fresh e = refl
 stopped_not (going l ls) e = refl
-stopped_not (found p) e = cc
-stopped_not none e = refl
+stopped_not (solved p) e = cc
+stopped_not unsolvable e = refl
 
 none_not : (p : Place) → out.None ≡ outcome_of p → is_found p ≡ false
 none_not fresh e = refl
 none_not (going l ls) e = refl
-none_not (found p) e = cc
-none_not none e = refl
+none_not (solved p) e = cc
+none_not unsolvable e = refl
 
 pub not_found : (o : Outcome) (p : Place) → (o ≡ out.Stopped) ⊎ (o ≡ out.None) → o ≡ outcome_of p → is_found p ≡ false
 not_found o p (inl e) h = stopped_not p (sym e ∙ h)
 not_found o p (inr e) h = none_not p (sym e ∙ h)
 
-pub found_place : (e : End) (w : List ℕ) (ls : List Level) → out.Found ≡ outcome_of (place_of e w ls) → place_of e w ls ≡ found (values w)
+pub found_place : (e : End) (w : List ℕ) (ls : List Level) → out.Found ≡ outcome_of (place_of e w ls) → place_of e w ls ≡ solved (values w)
 found_place Fresh w [] h = cc
 found_place Found w [] h = refl
 found_place Exhausted w [] h = cc
@@ -152,7 +152,7 @@ found_place Fresh w (l ∷ ls) h = cc
 found_place Found w (l ∷ ls) h = cc
 found_place Exhausted w (l ∷ ls) h = cc
 
-pub reads_by : (st : Behaviour) (m : Meaning) (voices : List ℕ) (rows : List RowData) (s : Search) (v : st.State) (sets buffer after : List ℕ) → place_in s ≡ found (values sets)
+pub reads_by : (st : Behaviour) (m : Meaning) (voices : List ℕ) (rows : List RowData) (s : Search) (v : st.State) (sets buffer after : List ℕ) → place_in s ≡ solved (values sets)
     → after ≡ values sets ++ drop (length sets) buffer → judged m (table_of voices rows s) (read buffer) ≡ Judgement.passes
     → Does st m (table_of voices rows s) v (read buffer) (Answer.wrote (length sets) after) (table_of voices rows s) v
 reads_by st m voices rows s v sets buffer after e f g =

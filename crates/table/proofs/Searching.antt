@@ -28,11 +28,11 @@ module _ (st : Behaviour) where
   pub next_step : (m : Meaning) (voices : List ℕ) (rows : List RowData) (s : List ℕ) (ls : List Level) (e : End) (y : List ℕ) (v x : st.State) (q : Place) (i : ℕ)
       → over (place_of e y ls) ≡ false → s ≡ next_sets voices ls → Opened st m rows s (next_levels ls) v q x i → Advanced st m voices rows (place_of e y ls) v q x i
   next_step m voices rows s [] Fresh y v x q i h f o =
-      record { lost = o.lost; steps = Steps.first v x q i o.lost (subst (λ t. Opens st m rows t [] v q x i o.lost) f o.opens) }
+      record { lost = o.lost; steps = Steps.opens_root v x q i o.lost (subst (λ t. Opens st m rows t [] v q x i o.lost) f o.opens) }
   next_step m voices rows s [] Found y v x q i h f o = cc
   next_step m voices rows s [] Exhausted y v x q i h f o = cc
   next_step m voices rows s (l ∷ ls) e y v x q i h f o =
-      record { lost = o.lost; steps = Steps.again l ls v x q i o.lost (subst (λ t. Opens st m rows t (taken l ∷ ls) v q x i o.lost) f o.opens) }
+      record { lost = o.lost; steps = Steps.opens_child l ls v x q i o.lost (subst (λ t. Opens st m rows t (taken l ∷ ls) v q x i o.lost) f o.opens) }
 
   -- ---- runs
 

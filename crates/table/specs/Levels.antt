@@ -5,7 +5,7 @@ use Rattle.rows.specs.Rows.{RowData, Meaning}
 use Rattle.stores.specs.Behaviours.{Behaviour}
 use Rattle.stores.specs.declared.store.Stored.{Stored}
 use Rattle.search.specs.Search.{Level, Place, BacksUp, child, taken}
-use Rattle.search.specs.Search.Place.{going, none}
+use Rattle.search.specs.Search.Place.{going, unsolvable}
 use Rattle.table.specs.declared.engine.level.LevelRecord.{LevelRecord}
 
 -- what is read past the last record
@@ -69,7 +69,7 @@ next_levels (l ∷ ls) = taken l ∷ ls
 
 -- where a search stands that has backed up to these levels
 abbrev pub place_backed_up : List Level → Place
-place_backed_up [] = none
+place_backed_up [] = unsolvable
 place_backed_up (l ∷ ls) = going l ls
 
 -- the state that a store may be in once the key was given to it, whatever it answered

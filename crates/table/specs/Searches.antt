@@ -3,7 +3,7 @@ use Rattle.std.specs.Prelude.{◌≡◌, ℕ, List, [], vec_items, vec_len}
 use Rattle.rows.specs.Rows.{RowData, Meaning}
 use Rattle.stores.specs.Behaviours.{Behaviour}
 use Rattle.search.specs.Search.{Level, Place}
-use Rattle.search.specs.Search.Place.{fresh, going, found, none}
+use Rattle.search.specs.Search.Place.{fresh, going, solved, unsolvable}
 use Rattle.search.specs.Calls.{TableData, OpensNodes, Solved}
 use Rattle.table.specs.Places.{place_of}
 use Rattle.table.specs.Stacks.{levels_in}
@@ -48,8 +48,8 @@ pub record Begun (n : ℕ) (s : Search) : Type 0 where
 abbrev pub outcome_of : Place → Outcome
 outcome_of fresh = Stopped
 outcome_of (going l ls) = Stopped
-outcome_of (found p) = Found
-outcome_of none = None
+outcome_of (solved p) = Found
+outcome_of unsolvable = None
 
 -- n nodes are opened; the store loses some number of keys
 pub record Ran (b : Behaviour) (m : Meaning) (n : ℕ) (t : TableData) (s : b.State) (u : TableData)

@@ -69,7 +69,7 @@ abbrev pub read_answer : Result ℕ Refusal → List ℕ → Answer
 read_answer (Ok count) buffer = Answer.wrote count buffer
 read_answer (Err refusal) buffer = Answer.refused (refusal_number refusal)
 
--- a declined Read leaves the buffer as it was
+-- a refused Read leaves the buffer as it was
 abbrev pub LeftAlone : Result ℕ Refusal → List ℕ → List ℕ → Type 0
 LeftAlone (Ok count) before after = Unit {0}
 LeftAlone (Err refusal) before after = after ≡ before

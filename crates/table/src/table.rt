@@ -96,7 +96,7 @@ impl<B: Bank, S: Store> Table<B, S> {
     pub fn declare(&mut self, set: ValueSet) -> Result<(), Refusal>
         ensures does { CallDone self.old (Call.declare set) (done_answer result) self.new }
         ensures history { CallExtends self.old (Call.declare set) (done_answer result) self.new }
-        ensures declined { OnErr result (self.new ≡ self.old) }
+        ensures refused { OnErr result (self.new ≡ self.old) }
     {
         if set == 0 {
             return Err(Refusal::EmptySet);
@@ -129,7 +129,7 @@ impl<B: Bank, S: Store> Table<B, S> {
     pub fn post(&mut self, bytes: &[u8]) -> Result<(), Refusal>
         ensures does { CallDone self.old (Call.post bytes.now) (done_answer result) self.new }
         ensures history { CallExtends self.old (Call.post bytes.now) (done_answer result) self.new }
-        ensures declined { OnErr result (self.new.store ≡ self.old.store) }
+        ensures refused { OnErr result (self.new.store ≡ self.old.store) }
     {
         let voices = self.voices.len();
         accept_bytes::<B>(bytes, voices, &mut self.rows[self.posted])?;
@@ -164,7 +164,7 @@ impl<B: Bank, S: Store> Table<B, S> {
             (solve_answer result (found_in self.new)) self.new }
         ensures history { CallExtends self.old (Call.solve budget)
             (solve_answer result (found_in self.new)) self.new }
-        ensures declined { OnErr result (self.new ≡ self.old) }
+        ensures refused { OnErr result (self.new ≡ self.old) }
         ensures onward { (model self.old).opened ≤ (model self.new).opened }
         ensures budget { (model self.new).opened ≤ (model self.old).opened + budget }
     {

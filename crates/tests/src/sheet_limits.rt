@@ -242,7 +242,7 @@ fn more_than_fits(rt: HostRuntime) -> Result<(), Fail> {
     Ok(())
 }
 
-// A byte more of rows than there may be; a sheet that is declined leaves an empty table.
+// A byte more of rows than there may be; a sheet that is refused leaves an empty table.
 #[test]
 fn bytes_at_their_limit(rt: HostRuntime) -> Result<(), Fail> {
     let mut bytes = sheet(&rt, 80, 63, 32, b"")?;

@@ -14,7 +14,7 @@ returns g c =
     let u = c.wipe_refused.new.table in
     let filled : Filled st m bs (store_in c.args.table.now) (model s) (store_in s) c.read_records-result.result (model u) (store_in u) = record {
       read = c.read_records-result.ensures;
-      declined = λ e. let d = c.wipe_refused.ensures.declined e in wiped st m (model s) (model u) (store_in s) (store_in u) d;
+      refused = λ e. let d = c.wipe_refused.ensures.refused e in wiped st m (model s) (model u) (store_in s) (store_in u) d;
       accepted = λ e. let same = c.wipe_refused.ensures.accepted e in (ap model same, ap store_in same);
     } in
     record { value = answers st m L bs filled; after = leaves st m L bs filled; history = extends st m L bs filled }

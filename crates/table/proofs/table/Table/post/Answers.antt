@@ -14,8 +14,8 @@ use Rattle.table.specs.Searches.{table_of}
 use Rattle.table.specs.declared.refusal.Refusal.{Refusal}
 use Rattle.table.specs.Refusals.{refusal_number}
 use Rattle.table.specs.Shown.{model, store_in, rows_in, done_answer}
-use Rattle.table.proofs.Calling.{on_err, extends_by, declines_kept, posts_by}
-use Rattle.table.proofs.Posting.{fault, bytes_decline, rows_full, row_fits, laid_out, full_by, open_by, room_left, rows_kept, rows_pushed, bytes_pushed}
+use Rattle.table.proofs.Calling.{on_err, extends_by, refuses_kept, posts_by}
+use Rattle.table.proofs.Posting.{fault, bytes_refused, rows_full, row_fits, laid_out, full_by, open_by, room_left, rows_kept, rows_pushed, bytes_pushed}
 use Rattle.table.proofs.Readying.{passed_row, ready_row}
 use Rattle.table.proofs.table.Table.post.Goals as goal
 
@@ -47,9 +47,9 @@ returns-in_err-accept_bytes g c =
     let p = err_from_is_err_and c.from_residual.result c.from_residual.ensures.1 in
     let a : done_answer c.from_residual.result ≡ Answer.refused (row_number f) =
     ap (λ (x : Result (Unit {0}) Refusal). done_answer x) p.1 ∙ ap (λ (x : Refusal). Answer.refused (refusal_number x)) p.2 in
-    let d = declines_kept g.S.Store.behaviour m (vec_items t.voices) (rows_in t) rows t.search v (post bs) (row_number f) (done_answer c.from_residual.result)
-    (rows_kept t.rows.items t.posted c.accept_bytes.new.row) a (bytes_decline m (model t) bs f e) in
-    record { does = d; history = extends_by g.S.Store.behaviour m g.met.B.Bank.lawful (model t) v (post bs) (done_answer c.from_residual.result) (table_of (vec_items t.voices) rows t.search) v b d; declined = on_err c.from_residual.result refl }
+    let d = refuses_kept g.S.Store.behaviour m (vec_items t.voices) (rows_in t) rows t.search v (post bs) (row_number f) (done_answer c.from_residual.result)
+    (rows_kept t.rows.items t.posted c.accept_bytes.new.row) a (bytes_refused m (model t) bs f e) in
+    record { does = d; history = extends_by g.S.Store.behaviour m g.met.B.Bank.lawful (model t) v (post bs) (done_answer c.from_residual.result) (table_of (vec_items t.voices) rows t.search) v b d; refused = on_err c.from_residual.result refl }
 
 pub returns-then-not-has_room : goal.returns-then-not-has_room
 returns-then-not-has_room g c =
@@ -63,9 +63,9 @@ returns-then-not-has_room g c =
     let n : c.len-voices.result ≡ length (vec_items t.voices) = omega (arith, c.len-voices.ensures, t.voices.ok.0) in
     let e : Ok c.in_ok-accept_bytes.field-0 ≡ row_verdict m bs (length (vec_items t.voices)) = c.in_ok-accept_bytes.ensures.value ∙ ap (λ (k : ℕ). row_verdict m bs k) n in
     let full = full_by (rows_in t) rows (length bs) kept c.if-not-has_room.ensures in
-    let d = declines_kept g.S.Store.behaviour m (vec_items t.voices) (rows_in t) rows t.search v (post bs) 12 (Answer.refused 12) kept refl
+    let d = refuses_kept g.S.Store.behaviour m (vec_items t.voices) (rows_in t) rows t.search v (post bs) 12 (Answer.refused 12) kept refl
     (rows_full m (model t) bs c.in_ok-accept_bytes.field-0 e full) in
-    record { does = d; history = extends_by g.S.Store.behaviour m g.met.B.Bank.lawful (model t) v (post bs) (Answer.refused 12) (table_of (vec_items t.voices) rows t.search) v b d; declined = refl }
+    record { does = d; history = extends_by g.S.Store.behaviour m g.met.B.Bank.lawful (model t) v (post bs) (Answer.refused 12) (table_of (vec_items t.voices) rows t.search) v b d; refused = refl }
 
 pub invariant_of-self-2 : goal.invariant_of-self-2
 invariant_of-self-2 g c =
@@ -114,4 +114,4 @@ returns g c =
     let room = open_by (rows_in t) before (length bs) kept c.if-not-has_room.ensures in
     let d = posts_by g.S.Store.behaviour m (vec_items t.voices) (rows_in t) rows t.search s v w bs _ pushed c.restart.ensures
     (row_fits m (model t) bs c.in_ok-accept_bytes.field-0 e room) c.clear.ensures in
-    record { does = d; history = extends_by g.S.Store.behaviour m g.met.B.Bank.lawful (model t) v (post bs) Answer.done (table_of (vec_items t.voices) rows s) w b d; declined = tt }
+    record { does = d; history = extends_by g.S.Store.behaviour m g.met.B.Bank.lawful (model t) v (post bs) Answer.done (table_of (vec_items t.voices) rows s) w b d; refused = tt }
