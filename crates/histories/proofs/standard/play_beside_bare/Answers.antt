@@ -13,3 +13,6 @@ returns-clause-over_shelf c =
     let long : length c.new.result.words.now ≡ c.args.count = ap length c.new.ensures.words ∙ c.deref_mut.ensures.len ∙ c.in_ok-words.ensures.len in
     let same : shelf_state_of c.new.result ≡ record { held = []; room = room_of c.args.count } = ap₂ shelf_state c.new.ensures.used (ap room_of long) in
     subst (λ (s : ShelfState). IfOk c.play_both.result (λ both. Played shelf four_kinds s (calls_of c.args.calls.now) (answers_of both.1.items) (progresses_of both.1.items))) same c.play_both.ensures.second
+
+pub returns-clause-over_bare : goal.returns-clause-over_bare
+returns-clause-over_bare c = c.play_both.ensures.first
