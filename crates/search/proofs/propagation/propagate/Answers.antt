@@ -4,7 +4,6 @@ use Rattle.rows.specs.Views.{rows_of}
 use Rattle.search.specs.Propagation.{rounds}
 use Rattle.search.specs.Results.{Stable, RoundDone}
 use Rattle.search.specs.Rounds.{due_of}
-use Rattle.search.proofs.Boxes.{proper_full}
 use Rattle.search.proofs.StableRows.{due_ready}
 use Rattle.search.proofs.Scans.{rounds_more}
 use Rattle.search.proofs.propagation.propagate.Goals as goal

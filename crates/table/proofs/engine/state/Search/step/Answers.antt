@@ -1,4 +1,4 @@
-use Rattle.std.proofs.Common.{◌≡◌, List, length, vec_items, ◌∙◌, arith}
+use Rattle.std.proofs.Common.{◌≡◌, length, vec_items, ◌∙◌, arith}
 use Rattle.std.specs.Vec.{with_items}
 use Rattle.std.proofs.lemmas.List.{with_items_is}
 use Rattle.rows.specs.Views.{rows_of}
