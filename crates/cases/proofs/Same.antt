@@ -7,8 +7,8 @@ use Rattle.sets.specs.Placings.{same}
 use Rattle.sets.proofs.Lists.{same_is}
 use Rattle.rows.specs.declared.member.Member.{Member}
 use Rattle.rows.specs.Rows.{RowData}
-use Rattle.search.specs.Search.{Level, Place}
-use Rattle.search.specs.Search.Place.{fresh, going}
+use Rattle.search.specs.Search.{Level, Status}
+use Rattle.search.specs.Search.Status.{fresh, going}
 use Rattle.rows.specs.Reasons.{Judgement}
 use Rattle.search.specs.Calls.{TableData, Call, Answer}
 use Rattle.search.specs.Calls.Answer.{done, refused, found, none, stopped, wrote}
@@ -104,21 +104,21 @@ same_level_is l k e =
     ap (λ s. record l { sets = s }) (same_is l.sets k.sets p.0)
     ∙ ap₂ {C = Level} (λ v n. record { sets = k.sets; voice = v; left = n }) (eqb-true l.voice k.voice q.0) (eqb-true l.left k.left q.1)
 
-abbrev same_place : Place → Place → Bool
-same_place fresh fresh = true
-same_place (going l ls) (going k ks) = same_level l k && same_list same_level ls ks
-same_place (Place.solved p) (Place.solved q) = same p q
-same_place Place.unsolvable Place.unsolvable = true
-same_place x y = false
+abbrev same_status : Status → Status → Bool
+same_status fresh fresh = true
+same_status (going l ls) (going k ks) = same_level l k && same_list same_level ls ks
+same_status (Status.solved p) (Status.solved q) = same p q
+same_status Status.unsolvable Status.unsolvable = true
+same_status x y = false
 
-same_place_is : (x y : Place) → same_place x y ≡ true → x ≡ y
-same_place_is fresh fresh e = refl
-same_place_is (going l ls) (going k ks) e =
+same_status_is : (x y : Status) → same_status x y ≡ true → x ≡ y
+same_status_is fresh fresh e = refl
+same_status_is (going l ls) (going k ks) e =
     let p = and_parts (same_level l k) (same_list same_level ls ks) e in
     ap₂ going (same_level_is l k p.0) (same_list_is same_level same_level_is ls ks p.1)
-same_place_is (Place.solved p) (Place.solved q) e = ap Place.solved (same_is p q e)
-same_place_is Place.unsolvable Place.unsolvable e = refl
-same_place_is x y e = absurd (both_ways false refl e)
+same_status_is (Status.solved p) (Status.solved q) e = ap Status.solved (same_is p q e)
+same_status_is Status.unsolvable Status.unsolvable e = refl
+same_status_is x y e = absurd (both_ways false refl e)
 
 -- what is given of a table, and what the search has come to
 abbrev same_given : TableData → TableData → Bool
@@ -128,14 +128,14 @@ abbrev same_counts : TableData → TableData → Bool
 same_counts t u = eqb t.opened u.opened && eqb t.exhausted u.exhausted
 
 abbrev pub same_table : TableData → TableData → Bool
-same_table t u = same_given t u && (same_place t.place u.place && same_counts t u)
+same_table t u = same_given t u && (same_status t.status u.status && same_counts t u)
 
 pub same_table_is : (t u : TableData) → same_table t u ≡ true → t ≡ u
 same_table_is t u e =
-    let p = and_parts (same_given t u) (same_place t.place u.place && same_counts t u) e in
+    let p = and_parts (same_given t u) (same_status t.status u.status && same_counts t u) e in
     let g = and_parts (same t.voices u.voices) (same_list same_row t.rows u.rows) p.0 in
-    let q = and_parts (same_place t.place u.place) (same_counts t u) p.1 in
+    let q = and_parts (same_status t.status u.status) (same_counts t u) p.1 in
     let n = and_parts (eqb t.opened u.opened) (eqb t.exhausted u.exhausted) q.1 in
     ap₂ {C = TableData} (λ v r. record t { voices = v; rows = r }) (same_is t.voices u.voices g.0) (same_list_is same_row same_row_is t.rows u.rows g.1)
-    ∙ ap₂ {C = TableData} (λ p o. record t { voices = u.voices; rows = u.rows; place = p; opened = o }) (same_place_is t.place u.place q.0) (eqb-true t.opened u.opened n.0)
+    ∙ ap₂ {C = TableData} (λ p o. record t { voices = u.voices; rows = u.rows; status = p; opened = o }) (same_status_is t.status u.status q.0) (eqb-true t.opened u.opened n.0)
     ∙ ap (λ e. record u { exhausted = e }) (eqb-true t.exhausted u.exhausted n.1)

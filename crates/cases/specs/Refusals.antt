@@ -3,8 +3,8 @@
 use Rattle.std.specs.Prelude.{◌≡◌, ℕ, List, [], ◌∷◌, ◌++◌, length, replicate, All}
 use Rattle.rows.specs.Rows.{RowData}
 use Rattle.rows.specs.Bytes.{decode, total_bytes}
-use Rattle.search.specs.Search.{Place}
-use Rattle.search.specs.Search.Place.{fresh, going, solved, unsolvable}
+use Rattle.search.specs.Search.{Status}
+use Rattle.search.specs.Search.Status.{fresh, going, solved, unsolvable}
 use Rattle.rows.specs.Reasons.{Judgement}
 use Rattle.search.specs.Calls.{TableData, begun, empty, Call, Answer, judged}
 use Rattle.search.specs.Calls.Call.{declare, post, solve, read, wipe}
@@ -49,12 +49,12 @@ long_rows n k =
 abbrev pub with_long_rows : ℕ → ℕ → TableData
 with_long_rows n k = begun (replicate 32 6) (long_rows n k)
 
--- the table of no voices and no rows, with its search at this place and so many nodes opened
-abbrev pub empty_at : Place → ℕ → TableData
-empty_at place opened = table_with [] [] place opened 0
+-- the table of no voices and no rows, whose search has this status and so many opened nodes
+abbrev pub empty_at : Status → ℕ → TableData
+empty_at status opened = table_with [] [] status opened 0
 
 -- a search that is not over
-abbrev pub unfinished : Place
+abbrev pub unfinished : Status
 unfinished = going (record { sets = 6 ∷ []; voice = 0; left = 4 }) []
 
 -- ---- rows of one member: its voice, and its argument's bytes

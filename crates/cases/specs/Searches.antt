@@ -2,8 +2,8 @@
 -- 6, {1,3} is 10, {3,4} is 24. The newest call comes first; the last two numbers of a table are
 -- the nodes opened and those exhausted, and the number behind it is how many keys were lost.
 use Rattle.std.specs.Prelude.{ℕ, List, [], ◌∷◌, All}
-use Rattle.search.specs.Search.{Level, Place}
-use Rattle.search.specs.Search.Place.{fresh, going}
+use Rattle.search.specs.Search.{Level, Status}
+use Rattle.search.specs.Search.Status.{fresh, going}
 use Rattle.search.specs.Calls.{TableData, Call, Answer}
 use Rattle.search.specs.Calls.Call.{declare, post, solve, read, wipe}
 use Rattle.search.specs.Calls.Answer.{done, refused, found, none, stopped, wrote}
@@ -18,9 +18,9 @@ abbrev pub three_posted : List (Call × Answer)
 three_posted =
     (post (first_differ 3), done) ∷ (declare 6, done) ∷ (declare 6, done) ∷ (declare 6, done) ∷ []
 
-abbrev pub three_at : Place → ℕ → ℕ → TableData
-three_at place opened exhausted =
-    table_with (6 ∷ 6 ∷ 6 ∷ []) (differs_3 ∷ []) place opened exhausted
+abbrev pub three_at : Status → ℕ → ℕ → TableData
+three_at status opened exhausted =
+    table_with (6 ∷ 6 ∷ 6 ∷ []) (differs_3 ∷ []) status opened exhausted
 
 -- the root, with its value 2 left to try
 abbrev pub three_root : Level
@@ -34,18 +34,18 @@ five_posted =
     ∷ (declare 24, done) ∷ (declare 24, done) ∷ (declare 24, done)
     ∷ (declare 6, done) ∷ (declare 6, done) ∷ []
 
-abbrev pub five_at : Place → ℕ → ℕ → TableData
-five_at place opened exhausted =
-    table_with (6 ∷ 6 ∷ 24 ∷ 24 ∷ 24 ∷ []) (differs_5 ∷ []) place opened exhausted
+abbrev pub five_at : Status → ℕ → ℕ → TableData
+five_at status opened exhausted =
+    table_with (6 ∷ 6 ∷ 24 ∷ 24 ∷ 24 ∷ []) (differs_5 ∷ []) status opened exhausted
 
 -- ---- {1,3} {1,3} that differ
 
 abbrev pub two_posted : List (Call × Answer)
 two_posted = (post (first_differ 2), done) ∷ (declare 10, done) ∷ (declare 10, done) ∷ []
 
-abbrev pub two_at : Place → ℕ → ℕ → TableData
-two_at place opened exhausted =
-    table_with (10 ∷ 10 ∷ []) (differs_2 ∷ []) place opened exhausted
+abbrev pub two_at : Status → ℕ → ℕ → TableData
+two_at status opened exhausted =
+    table_with (10 ∷ 10 ∷ []) (differs_2 ∷ []) status opened exhausted
 
 -- solved with 1 node, read too early, solved, solved again, read into a buffer that is too short
 -- and into a longer one
@@ -78,39 +78,39 @@ root_key = 6 ∷ 6 ∷ 24 ∷ 24 ∷ 24 ∷ 1 ∷ 0 ∷ []
 abbrev pub searches : List SearchCase
 searches =
     -- three voices cannot differ with two values: over a large shelf, and over the bare store
-    calls_over large ((solve 9, none) ∷ three_posted) (three_at Place.unsolvable 3 1) 0
+    calls_over large ((solve 9, none) ∷ three_posted) (three_at Status.unsolvable 3 1) 0
     (three_key ∷ [])
-    ∷ calls_over bare_case ((solve 9, none) ∷ three_posted) (three_at Place.unsolvable 3 1) 1 []
+    ∷ calls_over bare_case ((solve 9, none) ∷ three_posted) (three_at Status.unsolvable 3 1) 1 []
     -- a budget of just as many nodes ends the search; one of 2 stops after the first child, and 1
     -- more ends it with the same counts
-    ∷ calls_over large ((solve 3, none) ∷ three_posted) (three_at Place.unsolvable 3 1) 0
+    ∷ calls_over large ((solve 3, none) ∷ three_posted) (three_at Status.unsolvable 3 1) 0
     (three_key ∷ [])
     ∷ calls_over large ((solve 2, stopped) ∷ three_posted) (three_at (going three_root []) 2 0) 0 []
     ∷ calls_over large ((solve 1, none) ∷ (solve 2, stopped) ∷ three_posted)
-    (three_at Place.unsolvable 3 1) 0
+    (three_at Status.unsolvable 3 1) 0
     (three_key ∷ [])
     -- both children of the root have one key: a store that holds it saves the search of the second
-    ∷ calls_over large ((solve 9, none) ∷ five_posted) (five_at Place.unsolvable 5 2) 0
+    ∷ calls_over large ((solve 9, none) ∷ five_posted) (five_at Status.unsolvable 5 2) 0
     (child_key ∷ root_key ∷ [])
-    ∷ calls_over bare_case ((solve 9, none) ∷ five_posted) (five_at Place.unsolvable 7 3) 3 []
+    ∷ calls_over bare_case ((solve 9, none) ∷ five_posted) (five_at Status.unsolvable 7 3) 3 []
     -- room for one key is enough, and a word less is not
-    ∷ calls_over (shelf_of 8) ((solve 9, none) ∷ five_posted) (five_at Place.unsolvable 5 2) 1
+    ∷ calls_over (shelf_of 8) ((solve 9, none) ∷ five_posted) (five_at Status.unsolvable 5 2) 1
     (child_key ∷ [])
-    ∷ calls_over (shelf_of 7) ((solve 9, none) ∷ five_posted) (five_at Place.unsolvable 7 3) 3 []
+    ∷ calls_over (shelf_of 7) ((solve 9, none) ∷ five_posted) (five_at Status.unsolvable 7 3) 3 []
     -- the empty table has one placing, of no values, and it can be read
-    ∷ calls_over large ((solve 9, found []) ∷ []) (table_with [] [] (Place.solved []) 1 0) 0 []
-    ∷ calls_over bare_case ((solve 9, found []) ∷ []) (table_with [] [] (Place.solved []) 1 0) 0 []
+    ∷ calls_over large ((solve 9, found []) ∷ []) (table_with [] [] (Status.solved []) 1 0) 0 []
+    ∷ calls_over bare_case ((solve 9, found []) ∷ []) (table_with [] [] (Status.solved []) 1 0) 0 []
     ∷ calls_over large ((read [], wrote 0 []) ∷ (solve 1, found []) ∷ [])
-    (table_with [] [] (Place.solved []) 1 0) 0 []
+    (table_with [] [] (Status.solved []) 1 0) 0 []
     -- the least placing of two voices: over a large shelf, and over the bare store
     ∷ calls_over large ((solve 9, found (1 ∷ 3 ∷ [])) ∷ two_posted)
-    (two_at (Place.solved (1 ∷ 3 ∷ [])) 2 0) 0 []
+    (two_at (Status.solved (1 ∷ 3 ∷ [])) 2 0) 0 []
     ∷ calls_over bare_case ((solve 9, found (1 ∷ 3 ∷ [])) ∷ two_posted)
-    (two_at (Place.solved (1 ∷ 3 ∷ [])) 2 0) 0 []
+    (two_at (Status.solved (1 ∷ 3 ∷ [])) 2 0) 0 []
     -- it is found again and read with no further node, and a refused call changes nothing
-    ∷ calls_over large two_read (two_at (Place.solved (1 ∷ 3 ∷ [])) 2 0) 0 []
+    ∷ calls_over large two_read (two_at (Status.solved (1 ∷ 3 ∷ [])) 2 0) 0 []
     ∷ calls_over large ((declare 0, refused 10) ∷ two_read)
-    (two_at (Place.solved (1 ∷ 3 ∷ [])) 2 0) 0 []
+    (two_at (Status.solved (1 ∷ 3 ∷ [])) 2 0) 0 []
     -- another voice begins the search again, and so does a wipe
     ∷ calls_over large ((declare 6, done) ∷ two_read)
     (table_with (10 ∷ 10 ∷ 6 ∷ []) (differs_2 ∷ []) fresh 0 0) 0 []

@@ -1,7 +1,7 @@
 -- The stores, the bytes of rows and the tables of the cases.
 use Rattle.std.specs.Prelude.{ℕ, zero, suc, List, [], ◌∷◌}
 use Rattle.rows.specs.Rows.{RowData}
-use Rattle.search.specs.Search.{Place}
+use Rattle.search.specs.Search.{Status}
 use Rattle.search.specs.Calls.{TableData}
 
 -- ---- stores
@@ -29,8 +29,7 @@ first_differ n = 0x41 ∷ n ∷ members_from 0 n
 
 -- ---- tables
 
--- with these voices and rows, the place that the search has reached, and the nodes opened and
--- exhausted
-abbrev pub table_with : List ℕ → List RowData → Place → ℕ → ℕ → TableData
-table_with voices rows place opened exhausted =
-    record { voices = voices; rows = rows; place = place; opened = opened; exhausted = exhausted }
+-- with these voices and rows, the status of the search, and the nodes opened and exhausted
+abbrev pub table_with : List ℕ → List RowData → Status → ℕ → ℕ → TableData
+table_with voices rows status opened exhausted =
+    record { voices = voices; rows = rows; status = status; opened = opened; exhausted = exhausted }

@@ -44,4 +44,4 @@ progresses_of replies = map (λ r. r.progress) replies
 
 -- how far the search of a table is
 abbrev pub progress_of : calls.TableData → Progress
-progress_of t = record { outcome = outcome_of t.place; opened = t.opened; exhausted = t.exhausted }
+progress_of t = record { outcome = outcome_of t.status; opened = t.opened; exhausted = t.exhausted }

@@ -7,15 +7,15 @@ use Rattle.std.proofs.lemmas.List.{length-map, take_at}
 use Rattle.sets.specs.Sets.{least}
 use Rattle.rows.specs.Rows.{Meaning}
 use Rattle.stores.specs.Behaviours.{Behaviour}
-use Rattle.search.specs.Search.{Place, Level}
-use Rattle.search.specs.Search.Place.{fresh, going, solved, unsolvable}
+use Rattle.search.specs.Search.{Status, Level}
+use Rattle.search.specs.Search.Status.{fresh, going, solved, unsolvable}
 use Rattle.rows.specs.Reasons.{Judgement, judge}
 use Rattle.search.specs.Calls.{TableData, Answer, Does, is_found, result}
 use Rattle.search.specs.Calls.Call.{read}
 use Rattle.search.specs.Calls.Answer.{wrote, refused}
 use Rattle.table.specs.declared.engine.level.End.{End}
 use Rattle.table.specs.declared.engine.level.End.TheVariants.{Fresh, Found, Exhausted}
-use Rattle.table.specs.Places.{place_of}
+use Rattle.table.specs.Statuses.{status_of}
 use Rattle.table.specs.Searches.{levels_of}
 use Rattle.table.specs.declared.table.Table as tables
 use Rattle.table.specs.declared.refusal.Refusal.{Refusal}
@@ -23,7 +23,7 @@ use Rattle.table.specs.Refusals.{refusal_number}
 use Rattle.table.specs.Shown.{found_in, read_answer}
 
 -- there are no more values than sets
-pub result_length : (e : End) (sets : List ℕ) (levels : List Level) → length (result (place_of e sets levels)) ≤ length sets
+pub result_length : (e : End) (sets : List ℕ) (levels : List Level) → length (result (status_of e sets levels)) ≤ length sets
 result_length Fresh sets [] = omega arith
 result_length Found sets [] = omega (arith, length-map sets least)
 result_length Exhausted sets [] = omega arith
@@ -35,7 +35,7 @@ found_few t = omega (arith, result_length t.search.end (vec_items t.search.sets)
 
 -- a Read that passes has written the values
 read_passed : {st : Behaviour} {m : Meaning} {t u : TableData} {v w : st.State} {buffer : List ℕ} {a : Answer} (k : ℕ) (after : List ℕ) → Does st m t v (read buffer) a u w → a ≡ wrote k after
-    → take k after ≡ result t.place
+    → take k after ≡ result t.status
 read_passed k after (Does.refuses c n d) e = cc
 read_passed {t = t} {buffer = buffer} k after (Does.reads b p j f) e =
     let n : k ≡ length p = cc in
@@ -43,14 +43,14 @@ read_passed {t = t} {buffer = buffer} k after (Does.reads b p j f) e =
     ap₂ (λ (i : ℕ) (x : List ℕ). take i x) n l ∙ take_at p (drop (length p) buffer) (length p) refl ∙ sym (ap result f)
 
 read_count : {st : Behaviour} {m : Meaning} {t u : TableData} {v w : st.State} {buffer : List ℕ} {a : Answer} (k : ℕ) (after : List ℕ) → Does st m t v (read buffer) a u w → a ≡ wrote k after
-    → k ≡ length (result t.place)
+    → k ≡ length (result t.status)
 read_count k after (Does.refuses c n d) e = cc
 read_count {t = t} k after (Does.reads b p j f) e =
     let n : k ≡ length p = cc in
-    n ∙ sym (ap (λ (x : Place). length (result x)) f)
+    n ∙ sym (ap (λ (x : Status). length (result x)) f)
 
 -- one that is refused, though the buffer is long enough, has found nothing
-none_found : (p : Place) (buffer : List ℕ) (n : ℕ) → length (result p) ≤ length buffer
+none_found : (p : Status) (buffer : List ℕ) (n : ℕ) → length (result p) ≤ length buffer
     → judge ((15, not (is_found p)) ∷ (16, ltb (length buffer) (length (result p))) ∷ []) ≡ Judgement.refused_by n → [] ≡ result p
 none_found fresh buffer n h d = refl
 none_found (going l ls) buffer n h d = refl
@@ -60,13 +60,13 @@ none_found (solved p) buffer n h d =
     cc
 
 read_refused : {st : Behaviour} {m : Meaning} {t u : TableData} {v w : st.State} {buffer : List ℕ} {a : Answer} (n : ℕ) → Does st m t v (read buffer) a u w → a ≡ refused n
-    → length (result t.place) ≤ length buffer → [] ≡ result t.place
-read_refused {t = t} {buffer = buffer} n (Does.refuses c k d) e h = none_found t.place buffer k h d
+    → length (result t.status) ≤ length buffer → [] ≡ result t.status
+read_refused {t = t} {buffer = buffer} n (Does.refuses c k d) e h = none_found t.status buffer k h d
 read_refused n (Does.reads b p j f) e h = cc
 
 -- so that as many values as it tells, or none where it is refused, are those that were found
 pub read_found : {st : Behaviour} {m : Meaning} {t u : TableData} {v w : st.State} {buffer : List ℕ} (r : Result ℕ Refusal) (count : ℕ) (after : List ℕ) → Does st m t v (read buffer) (read_answer r after) u w
-    → count ≡ result_unwrap_or r 0 → length (result t.place) ≤ length buffer → (count ≡ length (result t.place)) × (take count after ≡ result t.place)
+    → count ≡ result_unwrap_or r 0 → length (result t.status) ≤ length buffer → (count ≡ length (result t.status)) × (take count after ≡ result t.status)
 read_found {t = t} (Ok k) count after d e h = (e ∙ read_count k after d refl, ap (λ (n : ℕ). take n after) e ∙ read_passed k after d refl)
 read_found {t = t} (Err refusal) count after d e h =
     let none = read_refused (refusal_number refusal) d refl h in (e ∙ ap length none, ap (λ (n : ℕ). take n after) e ∙ none)

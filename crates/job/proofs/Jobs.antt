@@ -8,9 +8,9 @@ use Rattle.rows.specs.Laws.{Laws}
 use Rattle.rows.specs.Reasons.{Judgement}
 use Rattle.stores.specs.Behaviours.{Behaviour}
 use Rattle.rows.specs.declared.limits.TheConstants.{MOST_BUDGET, MOST_SHEET}
-use Rattle.search.specs.Search.{Place}
-use Rattle.search.specs.Search.Place.{fresh, going, solved, unsolvable}
-use Rattle.search.specs.Calls.{TableData, begun, Answer, judged, over, result, place_answer, Does}
+use Rattle.search.specs.Search.{Status}
+use Rattle.search.specs.Search.Status.{fresh, going, solved, unsolvable}
+use Rattle.search.specs.Calls.{TableData, begun, Answer, judged, over, result, status_answer, Does}
 use Rattle.search.specs.Calls.Call.{solve}
 use Rattle.search.specs.Histories.{History, keys_lost, LeadsTo, declared_voices, posted_rows}
 use Rattle.search.specs.Results.{SolveMeans}
@@ -61,27 +61,27 @@ solve_outcome (Ok Found) values = refl
 solve_outcome (Ok None) values = refl
 solve_outcome (Err refusal) values = refl
 
-place_outcome : (p : Place) → answer_outcome (place_answer p) ≡ outcome_of p
-place_outcome fresh = refl
-place_outcome (going l ls) = refl
-place_outcome (solved p) = refl
-place_outcome unsolvable = refl
+status_outcome : (p : Status) → answer_outcome (status_answer p) ≡ outcome_of p
+status_outcome fresh = refl
+status_outcome (going l ls) = refl
+status_outcome (solved p) = refl
+status_outcome unsolvable = refl
 
-place_stops : (p : Place) → over p ≡ false → place_answer p ≡ Answer.stopped
-place_stops fresh h = refl
-place_stops (going l ls) h = refl
-place_stops (solved p) h = absurd (both_ways true h refl)
-place_stops unsolvable h = absurd (both_ways true h refl)
+status_stops : (p : Status) → over p ≡ false → status_answer p ≡ Answer.stopped
+status_stops fresh h = refl
+status_stops (going l ls) h = refl
+status_stops (solved p) h = absurd (both_ways true h refl)
+status_stops unsolvable h = absurd (both_ways true h refl)
 
 -- the report of a search that stands here
-reports_place : (m : Meaning) (voices : List ℕ) (rows : List RowData) (p : Place) (opened exhausted : ℕ) → SolveMeans m voices rows (place_answer p)
+reports_status : (m : Meaning) (voices : List ℕ) (rows : List RowData) (p : Status) (opened exhausted : ℕ) → SolveMeans m voices rows (status_answer p)
     → (over p ≡ false → opened ≡ 1_000_000) → Reports m voices rows (outcome_text (outcome_name (outcome_of p)) opened exhausted (result p))
-reports_place m voices rows fresh opened exhausted s h =
+reports_status m voices rows fresh opened exhausted s h =
     subst (λ (n : ℕ). Reports m voices rows (outcome_text (codes "stopped") n exhausted [])) (sym (h refl)) (Reports.reports_stopped exhausted)
-reports_place m voices rows (going l ls) opened exhausted s h =
+reports_status m voices rows (going l ls) opened exhausted s h =
     subst (λ (n : ℕ). Reports m voices rows (outcome_text (codes "stopped") n exhausted [])) (sym (h refl)) (Reports.reports_stopped exhausted)
-reports_place m voices rows (solved p) opened exhausted s h = Reports.reports_found p opened exhausted s
-reports_place m voices rows unsolvable opened exhausted s h = Reports.reports_none opened exhausted s
+reports_status m voices rows (solved p) opened exhausted s h = Reports.reports_found p opened exhausted s
+reports_status m voices rows unsolvable opened exhausted s h = Reports.reports_none opened exhausted s
 
 -- ---- a sheet loaded into a new table
 
@@ -99,18 +99,18 @@ module _ (b : Behaviour) (m : Meaning) (L : Laws m) (g : b.State) (sheet : List 
       let all : History b m g ((solve MOST_BUDGET, a) ∷ calls) u w = History.then calls t u v w (solve MOST_BUDGET) a H tt D in
       let given = tables_given b m g calls t v H in
       let says_so : SolveMeans m (declared_voices calls) (posted_rows m calls) a = answers_hold b m L g [] calls MOST_BUDGET a u w all in
-      let means : SolveMeans m voices rows (place_answer u.place) = subst (λ (x : Answer). SolveMeans m voices rows x) k.answer
+      let means : SolveMeans m voices rows (status_answer u.status) = subst (λ (x : Answer). SolveMeans m voices rows x) k.answer
       (subst₂ (λ (vs : List ℕ) (rs : List RowData). SolveMeans m vs rs a) (sym given.0 ∙ ap (λ (x : TableData). x.voices) e) (sym given.1 ∙ ap (λ (x : TableData). x.rows) e) says_so) in
-      let outcome : result_unwrap_or r Stopped ≡ outcome_of u.place = solve_outcome r values ∙ ap answer_outcome k.answer ∙ place_outcome u.place in
-      let reported : searched_text (result_unwrap_or r Stopped) u ≡ searched_text (outcome_of u.place) u = ap (λ (o : Outcome). searched_text o u) outcome in
-      let spent : over u.place ≡ false → u.opened ≡ 1_000_000 =
-      λ h. let stops = (k.stopped_exactly.0 (k.answer ∙ place_stops u.place h)).0 in omega (arith, stops, ap (λ (x : TableData). x.opened) e) in
+      let outcome : result_unwrap_or r Stopped ≡ outcome_of u.status = solve_outcome r values ∙ ap answer_outcome k.answer ∙ status_outcome u.status in
+      let reported : searched_text (result_unwrap_or r Stopped) u ≡ searched_text (outcome_of u.status) u = ap (λ (o : Outcome). searched_text o u) outcome in
+      let spent : over u.status ≡ false → u.opened ≡ 1_000_000 =
+      λ h. let stops = (k.stopped_exactly.0 (k.answer ∙ status_stops u.status h)).0 in omega (arith, stops, ap (λ (x : TableData). x.opened) e) in
       record {
         lost = keys_lost all;
         history = subst (λ (x : Answer). LeadsTo b m g ((solve MOST_BUDGET, x) ∷ calls) u w (keys_lost all)) k.answer (all, refl);
         invariant = invariant_holds b m L g ((solve MOST_BUDGET, a) ∷ calls) u w all;
         reported = reported;
-        promised = subst (Reports m voices rows) (sym reported) (reports_place m voices rows u.place u.opened u.exhausted means spent);
+        promised = subst (Reports m voices rows) (sym reported) (reports_status m voices rows u.status u.opened u.exhausted means spent);
       }
 
   pub sheet_solved : (o : SheetReading) (t u : TableData) (v w : b.State) (r : Result Outcome Refusal) (values : List ℕ)

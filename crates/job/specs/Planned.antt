@@ -4,7 +4,7 @@ use Rattle.std.specs.Prelude.{◌≡◌, ℕ, List, [], ◌∷◌, Result}
 use Rattle.rows.specs.Rows.{Meaning}
 use Rattle.stores.specs.Behaviours.{Behaviour}
 use Rattle.rows.specs.declared.limits.TheConstants.{MOST_BUDGET}
-use Rattle.search.specs.Calls.{TableData, place_answer}
+use Rattle.search.specs.Calls.{TableData, status_answer}
 use Rattle.search.specs.Calls.Call.{solve}
 use Rattle.search.specs.Histories.{LeadsTo}
 use Rattle.search.specs.Results.{Invariant}
@@ -24,7 +24,7 @@ abbrev pub JobHistory : (b : Behaviour) (m : Meaning) (given : b.State) (sheet :
     → SheetReading → TableData → b.State → ℕ → Type 0
 JobHistory b m given sheet (accepted voices rows) t s lost =
     let calls =
-    (solve MOST_BUDGET, place_answer t.place) ∷ posted_after (declared_after [] voices) rows in
+    (solve MOST_BUDGET, status_answer t.status) ∷ posted_after (declared_after [] voices) rows in
     LeadsTo b m given calls t s lost
 JobHistory b m given sheet (faulty number place layer) t s lost =
     FillHistory b m given [] sheet (faulty number place layer) t s × (lost ≡ 0)

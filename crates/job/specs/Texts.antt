@@ -52,11 +52,11 @@ outcome_text name opened exhausted values =
 
 -- where its search has come to this
 abbrev pub searched_text : Outcome → TableData → List ℕ
-searched_text o t = outcome_text (outcome_name o) t.opened t.exhausted (result t.place)
+searched_text o t = outcome_text (outcome_name o) t.opened t.exhausted (result t.status)
 
 -- after a Load with this answer
 abbrev pub report_text : LoadAnswer → TableData → List ℕ
-report_text sheet_loaded t = searched_text (outcome_of t.place) t
+report_text sheet_loaded t = searched_text (outcome_of t.status) t
 report_text (sheet_fault number place layer) t = refused_line number place layer
 
 -- of a sheet that was refused for this fault, or for which the table's search has come to this

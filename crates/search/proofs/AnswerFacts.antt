@@ -8,9 +8,9 @@ use Rattle.rows.specs.Laws.{Laws}
 use Rattle.rows.specs.Bytes.{Bytes, decode}
 use Rattle.stores.specs.Stores.{View}
 use Rattle.search.proofs.AnyStore.{any}
-use Rattle.search.specs.Search.{Place, Steps}
+use Rattle.search.specs.Search.{Status, Steps}
 use Rattle.rows.specs.Reasons.{Judgement}
-use Rattle.search.specs.Calls.{TableData, Call, Answer, Formed, reasons, judged, over, place_answer, result, OpensNodes, Solved, Does}
+use Rattle.search.specs.Calls.{TableData, Call, Answer, Formed, reasons, judged, over, status_answer, result, OpensNodes, Solved, Does}
 use Rattle.search.specs.Histories.{History, keys_lost, declared_voices, posted_rows}
 use Rattle.rows.specs.Placed.{Least, Lawless, SameLeast}
 use Rattle.search.specs.Results.{Invariant, Reads, SolveMeans, finished, Budgeted}
@@ -20,7 +20,7 @@ use Rattle.search.proofs.SetParts.{under}
 
 -- ---- Solve and its budget
 
-pub steps_not_over : {m : Meaning} {voices : List ℕ} {rows : List RowData} {p : Place} {v : View} {q : Place} {w : View} {n k : ℕ} → Steps any m voices rows p v q w n k → over p ≡ false
+pub steps_not_over : {m : Meaning} {voices : List ℕ} {rows : List RowData} {p : Status} {v : View} {q : Status} {w : View} {n k : ℕ} → Steps any m voices rows p v q w n k → over p ≡ false
 steps_not_over (Steps.opens_root v w p n k O) = refl
 steps_not_over (Steps.opens_child l ls v w p n k O) = refl
 
@@ -34,9 +34,9 @@ pub goes_kept : {m : Meaning} {n : ℕ} {t : TableData} {v : View} {u : TableDat
 goes_kept (OpensNodes.stay t v) = record { voices = refl; rows = refl; opened = omega arith }
 goes_kept (OpensNodes.more b t u v w x p n k j S G) = let r = goes_kept G in record { voices = r.voices; rows = r.rows; opened = omega (arith, r.opened) }
 
-goes_over : {m : Meaning} {n : ℕ} {t : TableData} {v : View} {u : TableData} {w : View} {k : ℕ} → OpensNodes any m n t v u w k → over t.place ≡ true → (u ≡ t) × (w ≡ v)
+goes_over : {m : Meaning} {n : ℕ} {t : TableData} {v : View} {u : TableData} {w : View} {k : ℕ} → OpensNodes any m n t v u w k → over t.status ≡ true → (u ≡ t) × (w ≡ v)
 goes_over (OpensNodes.stay t v) o = (refl, refl)
-goes_over (OpensNodes.more b t u v w x p n k j S G) o = absurd (both_ways (over t.place) (steps_not_over S) o)
+goes_over (OpensNodes.more b t u v w x p n k j S G) o = absurd (both_ways (over t.status) (steps_not_over S) o)
 
 abbrev Stops : Answer → Type 0
 Stops Answer.done = ⊥
@@ -46,19 +46,19 @@ Stops Answer.none = ⊥
 Stops Answer.stopped = Unit {0}
 Stops (Answer.wrote n b) = ⊥
 
-stops_open : (x : Place) → place_answer x ≡ Answer.stopped → over x ≡ false
-stops_open Place.fresh e = refl
-stops_open (Place.going l ls) e = refl
-stops_open (Place.solved p) e = absurd (subst Stops (sym e) tt)
-stops_open Place.unsolvable e = absurd (subst Stops (sym e) tt)
+stops_open : (x : Status) → status_answer x ≡ Answer.stopped → over x ≡ false
+stops_open Status.fresh e = refl
+stops_open (Status.going l ls) e = refl
+stops_open (Status.solved p) e = absurd (subst Stops (sym e) tt)
+stops_open Status.unsolvable e = absurd (subst Stops (sym e) tt)
 
-open_stops : (x : Place) → over x ≡ false → place_answer x ≡ Answer.stopped
-open_stops Place.fresh e = refl
-open_stops (Place.going l ls) e = refl
-open_stops (Place.solved p) e = absurd (both_ways true e refl)
-open_stops Place.unsolvable e = absurd (both_ways true e refl)
+open_stops : (x : Status) → over x ≡ false → status_answer x ≡ Answer.stopped
+open_stops Status.fresh e = refl
+open_stops (Status.going l ls) e = refl
+open_stops (Status.solved p) e = absurd (both_ways true e refl)
+open_stops Status.unsolvable e = absurd (both_ways true e refl)
 
-solved : (m : Meaning) (t : TableData) (v : View) (b : ℕ) (u : TableData) (w : View) (k : ℕ) → Solved any m b t v u w k → Budgeted t b (place_answer u.place) u
+solved : (m : Meaning) (t : TableData) (v : View) (b : ℕ) (u : TableData) (w : View) (k : ℕ) → Solved any m b t v u w k → Budgeted t b (status_answer u.status) u
 solved m t v b u w lost S =
     let k = goes_kept S.goes in
     record {
@@ -66,9 +66,9 @@ solved m t v b u w lost S =
       at_most = omega (arith, k.opened, S.inside);
       stopped_exactly = (
         (λ e.
-            let o = stops_open u.place e in
-            (elim S.ends [ inl c ↦ absurd (both_ways (over u.place) o c) | inr c ↦ omega (arith, k.opened, c) ], o)),
-        (λ e. open_stops u.place e.1),
+            let o = stops_open u.status e in
+            (elim S.ends [ inl c ↦ absurd (both_ways (over u.status) o c) | inr c ↦ omega (arith, k.opened, c) ], o)),
+        (λ e. open_stops u.status e.1),
       );
       answer = refl;
       same_voices = k.voices;
@@ -124,16 +124,16 @@ last : {m : Meaning} {h : List (Call × Answer)} {t : TableData} {v : View} → 
 last (History.made v e) = tt
 last (History.then h t u v w c a H o d) = (t, v, H, d, o)
 
-says_of : (m : Meaning) (lost : ℕ) (t : TableData) (v : View) → Invariant m lost t v → (x : Place) → t.place ≡ x → SolveMeans m t.voices t.rows (place_answer x)
-says_of m lost t v s Place.fresh e = tt
-says_of m lost t v s (Place.going l ls) e = tt
-says_of m lost t v s (Place.solved p) e = s.found_least p e
-says_of m lost t v s Place.unsolvable e = s.none_lawful e
+says_of : (m : Meaning) (lost : ℕ) (t : TableData) (v : View) → Invariant m lost t v → (x : Status) → t.status ≡ x → SolveMeans m t.voices t.rows (status_answer x)
+says_of m lost t v s Status.fresh e = tt
+says_of m lost t v s (Status.going l ls) e = tt
+says_of m lost t v s (Status.solved p) e = s.found_least p e
+says_of m lost t v s Status.unsolvable e = s.none_lawful e
 
 says_after : (m : Meaning) (lost : ℕ) (t : TableData) (v : View) (b : ℕ) (a : Answer) (u : TableData) (w : View) → Does any m t v (solve b) a u w → Invariant m lost u w
     → SolveMeans m u.voices u.rows a
 says_after m lost t v b a u w (Does.refuses c n d) s = tt
-says_after m lost t v b a u w (Does.solves b' u' w' k _ S) s = says_of m lost u w s u.place refl
+says_after m lost t v b a u w (Does.solves b' u' w' k _ S) s = says_of m lost u w s u.status refl
 
 answer_holds : (m : Meaning) → Laws m → (h : List (Call × Answer)) (b : ℕ) (a : Answer) (t : TableData) (v : View)
     → {g : View} → History any m g ((solve b, a) ∷ h) t v → SolveMeans m (declared_voices h) (posted_rows m h) a
@@ -173,13 +173,13 @@ Wrote m t v buffer (Answer.refused n) = Unit {0}
 Wrote m t v buffer (Answer.found p) = Unit {0}
 Wrote m t v buffer Answer.none = Unit {0}
 Wrote m t v buffer Answer.stopped = Unit {0}
-Wrote m t v buffer (Answer.wrote n b) = (p : List ℕ) × (t.place ≡ Place.solved p) × (length p ≤ length buffer) × (n ≡ length p) × (b ≡ p ++ drop (length p) buffer)
+Wrote m t v buffer (Answer.wrote n b) = (p : List ℕ) × (t.status ≡ Status.solved p) × (length p ≤ length buffer) × (n ≡ length p) × (b ≡ p ++ drop (length p) buffer)
 
 wrote : (m : Meaning) (t : TableData) (v : View) (buffer : List ℕ) (a : Answer) (u : TableData) (w : View) → Does any m t v (read buffer) a u w → Wrote m t v buffer a × (u ≡ t)
 wrote m t v buffer a u w (Does.refuses c n d) = (tt, refl)
 wrote m t v buffer a u w (Does.reads b p j e) =
-    let f = ltb-false (length buffer) (length (result t.place)) (none_fits (reasons m t (read buffer)) j).1.0 in
-    ((p, e, subst (λ (x : Place). length (result x) ≤ length buffer) e f, refl, refl), refl)
+    let f = ltb-false (length buffer) (length (result t.status)) (none_fits (reasons m t (read buffer)) j).1.0 in
+    ((p, e, subst (λ (x : Status). length (result x) ≤ length buffer) e f, refl, refl), refl)
 
 read_holds : (m : Meaning) → Laws m → (h : List (Call × Answer)) (buffer : List ℕ) (n : ℕ) (b : List ℕ) (t : TableData) (v : View)
     → {g : View} → History any m g ((read buffer, Answer.wrote n b) ∷ h) t v → Reads m (declared_voices h) (posted_rows m h) buffer n b

@@ -6,7 +6,7 @@ use Rattle.stores.specs.Keys.{key}
 use Rattle.stores.specs.Stores.{View, Emptied, Keeps}
 use Rattle.stores.specs.Behaviours.{Behaviour}
 use Rattle.stores.specs.declared.store.Stored.TheVariants.{Kept, Lost}
-use Rattle.search.specs.Search.{Level, Place, BacksUp, Opens, Steps}
+use Rattle.search.specs.Search.{Level, Status, BacksUp, Opens, Steps}
 use Rattle.search.specs.Calls.{TableData, Call, Answer, over, OpensNodes, Does, lost_after}
 use Rattle.search.specs.Histories.{History, keys_lost}
 use Rattle.search.specs.CallOutcomes.{BacksNew, OpensNew, StepsNew}
@@ -25,7 +25,7 @@ any = record {
 -- ---- what is done over a store of the behaviour b may be done over any
 
 module _ (b : Behaviour) (m : Meaning) where
-  pub backs_any : {rows : List RowData} {ls : List Level} {s : b.State} {p : Place} {t : b.State} {n k : ℕ} → BacksUp b m rows ls s p t n k
+  pub backs_any : {rows : List RowData} {ls : List Level} {s : b.State} {p : Status} {t : b.State} {n k : ℕ} → BacksUp b m rows ls s p t n k
       → BacksUp any m rows ls (b.view s) p (b.view t) n k
   backs_any (BacksUp.at_root s) = BacksUp.at_root (b.view s)
   backs_any (BacksUp.goes_on l ls s z) = BacksUp.goes_on l ls (b.view s) z
@@ -34,14 +34,14 @@ module _ (b : Behaviour) (m : Meaning) where
   backs_any {rows} (BacksUp.key_lost l ls s t u p n k z K B) =
       BacksUp.key_lost l ls (b.view s) (b.view t) (b.view u) p n k z (b.keeps_lawfully s t (key m rows l.sets) Lost K) (backs_any B)
 
-  pub opens_any : {rows : List RowData} {sets : List ℕ} {ls : List Level} {s : b.State} {p : Place} {t : b.State} {n k : ℕ} → Opens b m rows sets ls s p t n k
+  pub opens_any : {rows : List RowData} {sets : List ℕ} {ls : List Level} {s : b.State} {p : Status} {t : b.State} {n k : ℕ} → Opens b m rows sets ls s p t n k
       → Opens any m rows sets ls (b.view s) p (b.view t) n k
   opens_any (Opens.finds p h) = Opens.finds p h
   opens_any (Opens.branches l h) = Opens.branches l h
   opens_any (Opens.dies p t n k h B) = Opens.dies p (b.view t) n k h (backs_any B)
   opens_any (Opens.hits p t n k h B) = Opens.hits p (b.view t) n k h (backs_any B)
 
-  pub steps_any : {voices : List ℕ} {rows : List RowData} {p : Place} {s : b.State} {q : Place} {t : b.State} {n k : ℕ} → Steps b m voices rows p s q t n k
+  pub steps_any : {voices : List ℕ} {rows : List RowData} {p : Status} {s : b.State} {q : Status} {t : b.State} {n k : ℕ} → Steps b m voices rows p s q t n k
       → Steps any m voices rows p (b.view s) q (b.view t) n k
   steps_any (Steps.opens_root s t p n k O) = Steps.opens_root (b.view s) (b.view t) p n k (opens_any O)
   steps_any (Steps.opens_child l ls s t p n k O) = Steps.opens_child l ls (b.view s) (b.view t) p n k (opens_any O)
@@ -79,14 +79,14 @@ module _ (b : Behaviour) (m : Meaning) where
   lost_any (History.then h t u s r c a H f D) = after_any D (keys_lost (history_any H)) ∙ ap (lost_after D) (lost_any H)
 
   -- keys that are new there are new here
-  backs_new : {rows : List RowData} {ls : List Level} {s : b.State} {p : Place} {t : b.State} {n k : ℕ} (B : BacksUp b m rows ls s p t n k) → BacksNew (backs_any B) → BacksNew B
+  backs_new : {rows : List RowData} {ls : List Level} {s : b.State} {p : Status} {t : b.State} {n k : ℕ} (B : BacksUp b m rows ls s p t n k) → BacksNew (backs_any B) → BacksNew B
   unfolding backs_any
   backs_new (BacksUp.at_root s) h = tt
   backs_new (BacksUp.goes_on l ls s z) h = tt
   backs_new (BacksUp.key_kept l ls s t u p n k z K B) h = (h.0, backs_new B h.1)
   backs_new (BacksUp.key_lost l ls s t u p n k z K B) h = (h.0, backs_new B h.1)
 
-  opens_new : {rows : List RowData} {sets : List ℕ} {ls : List Level} {s : b.State} {p : Place} {t : b.State} {n k : ℕ} (O : Opens b m rows sets ls s p t n k)
+  opens_new : {rows : List RowData} {sets : List ℕ} {ls : List Level} {s : b.State} {p : Status} {t : b.State} {n k : ℕ} (O : Opens b m rows sets ls s p t n k)
       → OpensNew (opens_any O) → OpensNew O
   unfolding opens_any
   opens_new (Opens.finds p h) y = tt
@@ -94,17 +94,17 @@ module _ (b : Behaviour) (m : Meaning) where
   opens_new (Opens.dies p t n k h B) y = backs_new B y
   opens_new (Opens.hits p t n k h B) y = backs_new B y
 
-  pub steps_new : {voices : List ℕ} {rows : List RowData} {p : Place} {s : b.State} {q : Place} {t : b.State} {n k : ℕ} (S : Steps b m voices rows p s q t n k)
+  pub steps_new : {voices : List ℕ} {rows : List RowData} {p : Status} {s : b.State} {q : Status} {t : b.State} {n k : ℕ} (S : Steps b m voices rows p s q t n k)
       → StepsNew (steps_any S) → StepsNew S
   unfolding steps_any
   steps_new (Steps.opens_root s t p n k O) y = opens_new O y
   steps_new (Steps.opens_child l ls s t p n k O) y = opens_new O y
 
   -- a Solve of a search that is over leaves the store
-  pub steps_open : {voices : List ℕ} {rows : List RowData} {p : Place} {s : b.State} {q : Place} {t : b.State} {n k : ℕ} → Steps b m voices rows p s q t n k → over p ≡ false
+  pub steps_open : {voices : List ℕ} {rows : List RowData} {p : Status} {s : b.State} {q : Status} {t : b.State} {n k : ℕ} → Steps b m voices rows p s q t n k → over p ≡ false
   steps_open (Steps.opens_root s t p n k O) = refl
   steps_open (Steps.opens_child l ls s t p n k O) = refl
 
-  pub goes_over : {n : ℕ} {t : TableData} {s : b.State} {u : TableData} {r : b.State} {lost : ℕ} → OpensNodes b m n t s u r lost → over t.place ≡ true → r ≡ s
+  pub goes_over : {n : ℕ} {t : TableData} {s : b.State} {u : TableData} {r : b.State} {lost : ℕ} → OpensNodes b m n t s u r lost → over t.status ≡ true → r ≡ s
   goes_over (OpensNodes.stay t s) o = refl
-  goes_over (OpensNodes.more i t u s r x p n k lost S G) o = absurd (both_ways (over t.place) (steps_open S) o)
+  goes_over (OpensNodes.more i t u s r x p n k lost S G) o = absurd (both_ways (over t.status) (steps_open S) o)

@@ -9,13 +9,13 @@ use Rattle.rows.specs.Laws.{Laws}
 use Rattle.stores.specs.Keys.{key}
 use Rattle.stores.specs.Stores.{is_held, View}
 use Rattle.search.proofs.AnyStore.{any}
-use Rattle.search.specs.Search.{Level, Place, Node, Lowest, below, first_open, level_of, node, child, taken, BacksUp, Opens, Steps}
+use Rattle.search.specs.Search.{Level, Status, Node, Lowest, below, first_open, level_of, node, child, taken, BacksUp, Opens, Steps}
 use Rattle.search.specs.Propagation.{propagated}
 use Rattle.search.specs.Calls.{TableData, Call, Answer, OpensNodes, Does}
 use Rattle.search.specs.Histories.{History, keys_lost}
 use Rattle.search.specs.Branching.{AboveNewest, Ascending, NodeLowest, TableLowest, Rising}
 use Rattle.rows.specs.Placed.{AllAccepted}
-use Rattle.search.specs.Search.Place.{fresh, going}
+use Rattle.search.specs.Search.Status.{fresh, going}
 use Rattle.search.specs.Search.Node.{dead, solution, hit, branch}
 use Rattle.search.proofs.Boxes.{narrow_refl}
 use Rattle.search.proofs.PropagationFacts.{propagated_ok}
@@ -98,7 +98,7 @@ module _ (m : Meaning) (L : Laws m) (rows : List RowData) (voices : List ℕ) (o
   ascend [] box c = tt
   ascend (l ∷ ls) box c = let s = c.0 in (s.long, s.first, above ls l s.proper s.first c.3, ascend ls l.sets c.3)
 
-  looks : (proper : Proper voices) (x : Place) (v : View) (o e : ℕ) → Stage m rows voices x v o e
+  looks : (proper : Proper voices) (x : Status) (v : View) (o e : ℕ) → Stage m rows voices x v o e
       → ((l : Level) (ls : List Level) → x ≡ going l ls → Ascending (length voices) (l ∷ ls)) × ((l : Level) (ls : List Level) → x ≡ going l ls → NodeLowest m rows v (taken l ∷ ls) (child l))
   looks proper x v o e st = (
     (λ l ls h. let g = (at l ls h).0 in (g.sits.long, g.sits.first, above ls l g.sits.proper g.sits.first g.chain, ascend ls l.sets g.chain)),
@@ -106,11 +106,11 @@ module _ (m : Meaning) (L : Laws m) (rows : List RowData) (voices : List ℕ) (o
   )
     where
       at : (l : Level) (ls : List Level) → x ≡ going l ls → Stage m rows voices (going l ls) v o e
-      at l ls h = subst (λ (y : Place). Stage m rows voices y v o e) h st
+      at l ls h = subst (λ (y : Status). Stage m rows voices y v o e) h st
 
 fit_looks : (m : Meaning) → Laws m → (lost : ℕ) (t : TableData) (v : View) → Fit m lost t v → TableLowest m t v
 fit_looks m L lost t v f =
-    let x = looks m L t.rows t.voices f.okay f.proper t.place v t.opened t.exhausted f.stage in
+    let x = looks m L t.rows t.voices f.okay f.proper t.status v t.opened t.exhausted f.stage in
     record {
       levels = x.0;
       root = λ _. judges m L t.rows t.voices f.okay t.voices [] v f.proper (record { narrow = narrow_refl t.voices; keeps = λ q y h. y });
@@ -128,19 +128,19 @@ rise_first k b e =
     let (i, a, h) = first_by (drop k b) k e in
     (omega (arith, a), omega (arith, a, h.inside, length-drop k b))
 
-abbrev PlaceRises : Place → Type 0
-PlaceRises fresh = Unit {0}
-PlaceRises (going l ls) = Rising (l ∷ ls)
-PlaceRises (Place.solved p) = Unit {0}
-PlaceRises Place.unsolvable = Unit {0}
+abbrev StatusRises : Status → Type 0
+StatusRises fresh = Unit {0}
+StatusRises (going l ls) = Rising (l ∷ ls)
+StatusRises (Status.solved p) = Unit {0}
+StatusRises Status.unsolvable = Unit {0}
 
-rise_back : {m : Meaning} {rows : List RowData} {ls : List Level} {v : View} {p : Place} {w : View} {n k : ℕ} → BacksUp any m rows ls v p w n k → Rising ls → PlaceRises p
+rise_back : {m : Meaning} {rows : List RowData} {ls : List Level} {v : View} {p : Status} {w : View} {n k : ℕ} → BacksUp any m rows ls v p w n k → Rising ls → StatusRises p
 rise_back (BacksUp.at_root v) r = tt
 rise_back (BacksUp.goes_on l ls v z) r = r
 rise_back (BacksUp.key_kept l ls v w u p n k z K B) r = rise_back B r.2
 rise_back (BacksUp.key_lost l ls v w u p n k z K B) r = rise_back B r.2
 
-rise_opens : {m : Meaning} {rows : List RowData} {s : List ℕ} {ls : List Level} {v : View} {p : Place} {w : View} {n k : ℕ} → Opens any m rows s ls v p w n k → Rising ls → PlaceRises p
+rise_opens : {m : Meaning} {rows : List RowData} {s : List ℕ} {ls : List Level} {v : View} {p : Status} {w : View} {n k : ℕ} → Opens any m rows s ls v p w n k → Rising ls → StatusRises p
 rise_opens (Opens.finds p h) r = tt
 rise_opens {m} {rows} {s} {ls} {v} (Opens.branches l h) r =
     let y = seen m rows v (below ls) (propagated m rows s) (branch l) h in
@@ -149,15 +149,15 @@ rise_opens {m} {rows} {s} {ls} {v} (Opens.branches l h) r =
 rise_opens (Opens.dies p w n k h B) r = rise_back B r
 rise_opens (Opens.hits p w n k h B) r = rise_back B r
 
-rise_steps : {m : Meaning} {voices : List ℕ} {rows : List RowData} {p : Place} {v : View} {q : Place} {w : View} {n k : ℕ} → Steps any m voices rows p v q w n k → PlaceRises p → PlaceRises q
+rise_steps : {m : Meaning} {voices : List ℕ} {rows : List RowData} {p : Status} {v : View} {q : Status} {w : View} {n k : ℕ} → Steps any m voices rows p v q w n k → StatusRises p → StatusRises q
 rise_steps (Steps.opens_root v w p n k O) r = rise_opens O tt
 rise_steps (Steps.opens_child l ls v w p n k O) r = rise_opens O r
 
-rise_goes : {m : Meaning} {n : ℕ} {t : TableData} {v : View} {u : TableData} {w : View} {k : ℕ} → OpensNodes any m n t v u w k → PlaceRises t.place → PlaceRises u.place
+rise_goes : {m : Meaning} {n : ℕ} {t : TableData} {v : View} {u : TableData} {w : View} {k : ℕ} → OpensNodes any m n t v u w k → StatusRises t.status → StatusRises u.status
 rise_goes (OpensNodes.stay t v) r = r
 rise_goes (OpensNodes.more b t u v w x p n k j S G) r = rise_goes G (rise_steps S r)
 
-rise_does : {m : Meaning} {t : TableData} {v : View} {c : Call} {a : Answer} {u : TableData} {w : View} → Does any m t v c a u w → PlaceRises t.place → PlaceRises u.place
+rise_does : {m : Meaning} {t : TableData} {v : View} {c : Call} {a : Answer} {u : TableData} {w : View} → Does any m t v c a u w → StatusRises t.status → StatusRises u.status
 rise_does (Does.refuses c n j) r = r
 rise_does (Does.declares s w j e) r = tt
 rise_does (Does.posts bs w j e) r = tt
@@ -165,10 +165,10 @@ rise_does (Does.wipes w e) r = tt
 rise_does (Does.solves b u w k j S) r = rise_goes S.goes r
 rise_does (Does.reads buffer p j e) r = r
 
-rise_history : {m : Meaning} {g : View} {h : List (Call × Answer)} {t : TableData} {v : View} → History any m g h t v → PlaceRises t.place
+rise_history : {m : Meaning} {g : View} {h : List (Call × Answer)} {t : TableData} {v : View} → History any m g h t v → StatusRises t.status
 rise_history (History.made v e) = tt
 rise_history (History.then h t u v w c a H o d) = rise_does d (rise_history H)
 
 pub levels_rise : (m : Meaning) (h : List (Call × Answer)) (t : TableData) (v : View) → {g : View} → History any m g h t v
-    → (n k : ℕ) (u : TableData) (w : View) → OpensNodes any m n t v u w k → (l : Level) (ls : List Level) → u.place ≡ going l ls → Rising (l ∷ ls)
-levels_rise m h t v H n k u w G l ls e = subst PlaceRises e (rise_goes G (rise_history H))
+    → (n k : ℕ) (u : TableData) (w : View) → OpensNodes any m n t v u w k → (l : Level) (ls : List Level) → u.status ≡ going l ls → Rising (l ∷ ls)
+levels_rise m h t v H n k u w G l ls e = subst StatusRises e (rise_goes G (rise_history H))

@@ -10,13 +10,13 @@ use Rattle.rows.specs.Bytes.{Bytes, Layout, head_length, lettered, counted, righ
 use Rattle.rows.proofs.Layouts.{bytes_both_ways}
 use Rattle.stores.specs.Stores.{is_held, View, distinct_keys}
 use Rattle.search.proofs.AnyStore.{any}
-use Rattle.search.specs.Search.{Place}
+use Rattle.search.specs.Search.{Status}
 use Rattle.rows.specs.Reasons.{Judgement, judge, refused_under}
 use Rattle.search.specs.Calls.{TableData, Call, Answer, Formed, reasons, judged, OpensNodes, Does, lost_after, empty}
 use Rattle.search.specs.Histories.{History, keys_lost}
 use Rattle.search.specs.Results.{Invariant}
 use Rattle.rows.specs.Placed.{AllAccepted}
-use Rattle.search.specs.Search.Place.{fresh, going, solved, unsolvable}
+use Rattle.search.specs.Search.Status.{fresh, going, solved, unsolvable}
 use Rattle.search.specs.Calls.Call.{declare, post}
 use Rattle.search.proofs.NodeFacts.{Stage, SoundStore, steps}
 
@@ -24,7 +24,7 @@ use Rattle.search.proofs.NodeFacts.{Stage, SoundStore, steps}
 pub record Fit (m : Meaning) (lost : ℕ) (t : TableData) (v : View) : Type 0 where
   pub proper : Proper t.voices
   pub okay : AllAccepted m t.rows (length t.voices)
-  pub stage : Stage m t.rows t.voices t.place v t.opened t.exhausted
+  pub stage : Stage m t.rows t.voices t.status v t.opened t.exhausted
   pub store : SoundStore m t.rows (length t.voices) v t.exhausted lost
 
 empty_store : (m : Meaning) (rows : List RowData) (n : ℕ) (v : View) → v.held ≡ [] → SoundStore m rows n v 0 0
@@ -125,7 +125,7 @@ module _ (m : Meaning) (L : Laws m) where
   fit (History.made v e) = made v e
   fit (History.then h t u v w c a H o d) = does d o (keys_lost H) (fit H)
 
-  bounded : (rows : List RowData) (voices : List ℕ) (v : View) (o e : ℕ) (p : Place) → Stage m rows voices p v o e → o ≤ 1 + 64 * (e + length voices)
+  bounded : (rows : List RowData) (voices : List ℕ) (v : View) (o e : ℕ) (p : Status) → Stage m rows voices p v o e → o ≤ 1 + 64 * (e + length voices)
   bounded rows voices v o e fresh s = omega arith
   bounded rows voices v o e (going l ls) s =
       let g = s.0 in
@@ -136,12 +136,12 @@ module _ (m : Meaning) (L : Laws m) where
   pub invariant_holds : (h : List (Call × Answer)) (t : TableData) (v : View) → {g : View} (H : History any m g h t v) → Invariant m (keys_lost H) t v
   invariant_holds h t v H =
       let f = fit H in
-      let at : (p : Place) → t.place ≡ p → Stage m t.rows t.voices p v t.opened t.exhausted =
-      λ p e. subst (λ (x : Place). Stage m t.rows t.voices x v t.opened t.exhausted) e f.stage in
+      let at : (p : Status) → t.status ≡ p → Stage m t.rows t.voices p v t.opened t.exhausted =
+      λ p e. subst (λ (x : Status). Stage m t.rows t.voices x v t.opened t.exhausted) e f.stage in
       record {
         found_least = λ p e. record { lawful = (at (solved p) e).0; least = (at (solved p) e).1 };
         none_lawful = λ e. (at unsolvable e).0;
         all_kept = f.store.count;
         distinct = f.store.distinct;
-        bounded = bounded t.rows t.voices v t.opened t.exhausted t.place f.stage;
+        bounded = bounded t.rows t.voices v t.opened t.exhausted t.status f.stage;
       }

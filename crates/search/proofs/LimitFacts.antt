@@ -10,7 +10,7 @@ use Rattle.stores.specs.Stores.{View}
 use Rattle.search.proofs.AnyStore.{any}
 use Rattle.rows.specs.declared.limits.TheConstants.{MOST_VOICES, MOST_ROWS, MOST_BYTES, MOST_OPENED}
 use Rattle.rows.specs.Reasons.{Judgement}
-use Rattle.search.specs.Calls.{TableData, Call, Answer, Formed, reasons, judged, empty, over, place_answer, Does}
+use Rattle.search.specs.Calls.{TableData, Call, Answer, Formed, reasons, judged, empty, over, status_answer, Does}
 use Rattle.search.specs.Calls.Call.{declare, post, solve}
 use Rattle.search.specs.Histories.{History}
 use Rattle.search.specs.Results.{AllLaidOut, Limited}
@@ -29,14 +29,14 @@ module _ (m : Meaning) where
   none_yet : Limited m empty
   none_yet = record { voices = omega arith; sets = λ i l. absurd (omega arith); rows = omega arith; bytes = omega arith; laid_out = tt; opened = omega arith }
 
-  solve_limit : (t : TableData) (v : View) (b : ℕ) (u : TableData) (w : View) → judged m t (solve b) ≡ Judgement.passes → Does any m t v (solve b) (place_answer u.place) u w → t.opened ≤ MOST_OPENED → u.opened ≤ MOST_OPENED
+  solve_limit : (t : TableData) (v : View) (b : ℕ) (u : TableData) (w : View) → judged m t (solve b) ≡ Judgement.passes → Does any m t v (solve b) (status_answer u.status) u w → t.opened ≤ MOST_OPENED → u.opened ≤ MOST_OPENED
   solve_limit t v b u w j d l =
-      let k = solve_keeps_budget m t v b (place_answer u.place) u w j d in
+      let k = solve_keeps_budget m t v b (status_answer u.status) u w j d in
       let f = (none_fits (reasons m t (solve b)) j).1.0 in
-      elim (cases_Bool (over t.place)) [
+      elim (cases_Bool (over t.status)) [
         | inl o ↦ omega (arith, l, ap (λ (x : TableData). x.opened) (k.repeats o))
-        | inr o ↦ elim (and_cases (not (over t.place)) (ltb MOST_OPENED (t.opened + b)) f) [
-          | inl e ↦ absurd (both_ways (over t.place) o (not-false (over t.place) e))
+        | inr o ↦ elim (and_cases (not (over t.status)) (ltb MOST_OPENED (t.opened + b)) f) [
+          | inl e ↦ absurd (both_ways (over t.status) o (not-false (over t.status) e))
           | inr e ↦ omega (arith, ltb-false MOST_OPENED (t.opened + b) e, k.at_most)
         ]
       ]

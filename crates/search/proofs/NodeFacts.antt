@@ -11,11 +11,11 @@ use Rattle.stores.specs.Keys.{key}
 use Rattle.stores.specs.Stores.{is_held, View, Keeps, distinct_keys}
 use Rattle.search.proofs.AnyStore.{any}
 use Rattle.rows.specs.Placed.{Lawful, AllAccepted}
-use Rattle.search.specs.Search.{Level, Place, Node, below, level_of, node, child, taken, BacksUp, Opens, Steps}
+use Rattle.search.specs.Search.{Level, Status, Node, below, level_of, node, child, taken, BacksUp, Opens, Steps}
 use Rattle.search.specs.Propagation.{propagated}
 use Rattle.stores.specs.declared.store.Stored.TheVariants.{Kept, Lost}
 use Rattle.search.specs.Results.{Stable}
-use Rattle.search.specs.Search.Place.{fresh, going, solved, unsolvable}
+use Rattle.search.specs.Search.Status.{fresh, going, solved, unsolvable}
 use Rattle.search.specs.Search.Node.{dead, solution, hit, branch}
 use Rattle.search.proofs.SetParts.{rest, empty_has}
 use Rattle.search.proofs.Boxes.{narrow_refl, within_narrow, empty_none, values_only}
@@ -33,8 +33,8 @@ waiting (l ∷ ls) = ones l.left + waiting ls
 abbrev pub Spent : List Level → ℕ → ℕ → Type 0
 Spent ls o e = o + waiting ls ≤ 1 + 64 * (e + length ls)
 
--- what is true of the place of a search with o nodes opened and e exhausted
-abbrev pub Stage : Meaning → List RowData → List ℕ → Place → View → ℕ → ℕ → Type 0
+-- what is true of a search with this status, o nodes opened and e exhausted
+abbrev pub Stage : Meaning → List RowData → List ℕ → Status → View → ℕ → ℕ → Type 0
 Stage m rows voices fresh v o e = o ≡ 0
 Stage m rows voices (going l ls) v o e = Going m rows voices l ls × (0 < l.left) × Unheld m rows v (l ∷ ls) × Spent (l ∷ ls) o e
 Stage m rows voices (solved p) v o e =
@@ -76,11 +76,11 @@ seen m rows v c b x e = subst (Seen m rows v c b) e (go (some_empty b) (all_fixe
     go false false false e f g = (f, g, refl, e)
 
 module _ (m : Meaning) (L : Laws m) (rows : List RowData) (voices : List ℕ) (okay : AllAccepted m rows (length voices)) where
-  -- a place and its store
-  abbrev pub Both : Place → View → ℕ → ℕ → ℕ → Type 0
+  -- a status and its store
+  abbrev pub Both : Status → View → ℕ → ℕ → ℕ → Type 0
   Both p v o e j = Stage m rows voices p v o e × SoundStore m rows (length voices) v e j
 
-  both_at : (p : Place) (v : View) (o e f j i : ℕ) → e ≡ f → j ≡ i → Both p v o e j → Both p v o f i
+  both_at : (p : Status) (v : View) (o e f j i : ℕ) → e ≡ f → j ≡ i → Both p v o e j → Both p v o f i
   both_at p v o e f j i a b h = subst (λ (x : ℕ). Both p v o x i) a (subst (λ (x : ℕ). Both p v o e x) b h)
 
   stored_after : (s : List ℕ) (v w : View) (e j f i : ℕ) → Proper s → length s ≡ length voices → Fails m rows s → From v (key m rows s) w
@@ -99,7 +99,7 @@ module _ (m : Meaning) (L : Laws m) (rows : List RowData) (voices : List ℕ) (o
       let g = back_newest m rows voices l ls box c f in
       empty_has (get_or p l.voice 0) (subst (λ (y : ℕ). has y (get_or p l.voice 0) ≡ true) (eqb-true l.left 0 z) (g.newest p w h))
 
-  backs_up : {ls : List Level} {v : View} {p : Place} {w : View} {n k : ℕ} → BacksUp any m rows ls v p w n k → (box : List ℕ) (o e j : ℕ)
+  backs_up : {ls : List Level} {v : View} {p : Status} {w : View} {n k : ℕ} → BacksUp any m rows ls v p w n k → (box : List ℕ) (o e j : ℕ)
       → Chain m rows voices ls box → Fails m rows box → Unheld m rows v ls → SoundStore m rows (length voices) v e j → Spent ls o e → Both p w o (e + n) (j + k)
   backs_up (BacksUp.at_root v) box o e j c f u st sp =
       ((λ q lw. f q (c.keeps q lw.within lw.holding) lw.holding, omega arith), record { sound = st.sound; count = λ z. omega (arith, st.count (omega arith)); distinct = st.distinct })
@@ -163,7 +163,7 @@ module _ (m : Meaning) (L : Laws m) (rows : List RowData) (voices : List ℕ) (o
       subst (λ (x : Level). Both (going x ls) v o (e + 0) (j + 0)) (sym y.2)
       ((g, at.0, (y.1, h.unheld), omega (arith, h.spent, ones_all (level_of (below ls) b).left at.1)), same_store v e j h.store)
 
-  fails : (b : List ℕ) (ls : List Level) (v : View) (o e j : ℕ) {p : Place} {w : View} {n k : ℕ} → Below b ls v o e j → Fails m rows b
+  fails : (b : List ℕ) (ls : List Level) (v : View) (o e j : ℕ) {p : Status} {w : View} {n k : ℕ} → Below b ls v o e j → Fails m rows b
       → BacksUp any m rows ls v p w n k → Both p w o (e + n) (j + k)
   fails b ls v o e j h f B = backs_up B b o e j h.chain f h.unheld h.store h.spent
 
@@ -183,7 +183,7 @@ module _ (m : Meaning) (L : Laws m) (rows : List RowData) (voices : List ℕ) (o
         spent = sp;
       }
 
-  opens : (s : List ℕ) (ls : List Level) (v : View) {p : Place} {w : View} {n k : ℕ} → Opens any m rows s ls v p w n k → (o e j : ℕ)
+  opens : (s : List ℕ) (ls : List Level) (v : View) {p : Status} {w : View} {n k : ℕ} → Opens any m rows s ls v p w n k → (o e j : ℕ)
       → Below (propagated m rows s) ls v o e j → Both p w o (e + n) (j + k)
   opens s ls v (Opens.finds p h) o e j a = finds (propagated m rows s) ls v o e j p a (seen m rows v (below ls) (propagated m rows s) (solution p) h)
   opens s ls v (Opens.branches l h) o e j a = branches (propagated m rows s) ls v o e j l a (seen m rows v (below ls) (propagated m rows s) (branch l) h)
@@ -192,7 +192,7 @@ module _ (m : Meaning) (L : Laws m) (rows : List RowData) (voices : List ℕ) (o
   opens s ls v (Opens.hits p w n k h B) o e j a =
       fails (propagated m rows s) ls v o e j a (hits (propagated m rows s) ls v o e j a (seen m rows v (below ls) (propagated m rows s) hit h)) B
 
-  pub steps : (proper : Proper voices) {p : Place} {v : View} {q : Place} {w : View} {n k : ℕ} → Steps any m voices rows p v q w n k → (o e j : ℕ)
+  pub steps : (proper : Proper voices) {p : Status} {v : View} {q : Status} {w : View} {n k : ℕ} → Steps any m voices rows p v q w n k → (o e j : ℕ)
       → Both p v o e j → Both q w (o + 1) (e + n) (j + k)
   steps proper (Steps.opens_root v w p n k O) o e j (g, st) =
       opens voices [] v O (o + 1) e j (falls voices [] v (o + 1) e j proper (record { narrow = narrow_refl voices; keeps = λ q y h. y }) tt st (omega arith))

@@ -6,15 +6,15 @@ use Rattle.rows.specs.Bytes.{decode}
 use Rattle.stores.specs.Keys.{key}
 use Rattle.stores.specs.Behaviours.{Behaviour, Decided}
 use Rattle.stores.specs.declared.store.Stored.{Stored}
-use Rattle.search.specs.Search.{Level, Place, Node, node, below, child, taken, BacksUp, Opens, Steps}
+use Rattle.search.specs.Search.{Level, Status, Node, node, below, child, taken, BacksUp, Opens, Steps}
 use Rattle.search.specs.Propagation.{propagated}
 use Rattle.rows.specs.Reasons.{Judgement}
-use Rattle.search.specs.Calls.{TableData, begun, empty, Call, Answer, judged, reasons, over, is_found, place_answer, result, node_more, OpensNodes, Solved, Does, lost_after}
+use Rattle.search.specs.Calls.{TableData, begun, empty, Call, Answer, judged, reasons, over, is_found, status_answer, result, node_more, OpensNodes, Solved, Does, lost_after}
 use Rattle.search.specs.Histories.{History, keys_lost, calls_in}
 use Rattle.search.specs.CallOutcomes.{CallOutcome}
 use Rattle.search.specs.Theorems.{OneOutcome, OneHistory}
 use Rattle.stores.specs.declared.store.Stored.TheVariants.{Kept, Lost}
-use Rattle.search.specs.Search.Place.{fresh, going, solved, unsolvable}
+use Rattle.search.specs.Search.Status.{fresh, going, solved, unsolvable}
 use Rattle.search.specs.Search.Node.{dead, solution, hit, branch}
 use Rattle.search.specs.Calls.Call.{declare, post, solve, read, wipe}
 use Rattle.rows.specs.Reasons.Judgement.{passes, refused_by}
@@ -23,7 +23,7 @@ use Rattle.search.proofs.AnyStore.{steps_open}
 
 -- what a node comes to
 pub record Ran (S : Type 0) : Type 0 where
-  pub place : Place
+  pub status : Status
   pub state : S
   pub exhausts : ℕ
   pub loses : ℕ
@@ -37,11 +37,11 @@ module _ (store : Behaviour) (d : Decided store) (m : Meaning) where
 
   -- one level more
   abbrev pub up : Stored → Ran store.State → Ran store.State
-  up a r = record { place = r.place; state = r.state; exhausts = suc r.exhausts; loses = count_lost a r.loses }
+  up a r = record { status = r.status; state = r.state; exhausts = suc r.exhausts; loses = count_lost a r.loses }
 
   -- nothing is exhausted, and the search stands here
-  abbrev pub stops : Place → store.State → Ran store.State
-  stops p v = record { place = p; state = v; exhausts = 0; loses = 0 }
+  abbrev pub stops : Status → store.State → Ran store.State
+  stops p v = record { status = p; state = v; exhausts = 0; loses = 0 }
 
   -- at a level, by whether it has no value left to try; and how the backing up then goes on
   abbrev pub backs_at : List RowData → Level → List Level → store.State → (store.State → Ran store.State) → Bool → Ran store.State
@@ -61,14 +61,14 @@ module _ (store : Behaviour) (d : Decided store) (m : Meaning) where
   abbrev pub opens : List RowData → List ℕ → List Level → store.State → Ran store.State
   opens rows b ls v = opened rows ls v (node m rows (store.view v) (below ls) (propagated m rows b))
 
-  abbrev pub step : List ℕ → List RowData → Place → store.State → Ran store.State
+  abbrev pub step : List ℕ → List RowData → Status → store.State → Ran store.State
   step voices rows fresh v = opens rows voices [] v
   step voices rows (going l ls) v = opens rows (child l) (taken l ∷ ls) v
   step voices rows (solved p) v = stops (solved p) v
   step voices rows unsolvable v = stops unsolvable v
 
   abbrev pub next : TableData → Ran store.State → TableData
-  next t r = node_more t r.place r.exhausts
+  next t r = node_more t r.status r.exhausts
 
   -- with as many keys lost before
   abbrev pub lost_first : ℕ → TableData × store.State × ℕ → TableData × store.State × ℕ
@@ -80,17 +80,17 @@ module _ (store : Behaviour) (d : Decided store) (m : Meaning) where
 
   -- by whether the search is over
   abbrev pub run_by : (TableData → store.State → TableData × store.State × ℕ) → TableData → store.State → Bool → TableData × store.State × ℕ
-  run_by others t v ended = elim ended [ true ↦ (t, v, 0) | false ↦ run_on others t (step t.voices t.rows t.place v) ]
+  run_by others t v ended = elim ended [ true ↦ (t, v, 0) | false ↦ run_on others t (step t.voices t.rows t.status v) ]
 
   -- the table, the store's state, and how many keys were lost
   abbrev pub run : ℕ → TableData → store.State → TableData × store.State × ℕ
   run zero t v = (t, v, 0)
-  run (suc b) t v = run_by (run b) t v (over t.place)
+  run (suc b) t v = run_by (run b) t v (over t.status)
 
   -- ---- what a relation gives is what the function gives
 
-  backs_is : {rows : List RowData} {ls : List Level} {v : store.State} {p : Place} {w : store.State} {n k : ℕ} (B : BacksUp store m rows ls v p w n k)
-      → backs rows ls v ≡ record { place = p; state = w; exhausts = n; loses = k }
+  backs_is : {rows : List RowData} {ls : List Level} {v : store.State} {p : Status} {w : store.State} {n k : ℕ} (B : BacksUp store m rows ls v p w n k)
+      → backs rows ls v ≡ record { status = p; state = w; exhausts = n; loses = k }
   backs_is (BacksUp.at_root v) = refl
   backs_is {rows} (BacksUp.goes_on l ls v z) =
       ap (backs_at rows l ls v (backs rows ls)) z
@@ -103,27 +103,27 @@ module _ (store : Behaviour) (d : Decided store) (m : Meaning) where
       ∙ ap₂ (λ (a : Stored) (x : store.State). up a (backs rows ls x)) (sym (d.answer_only v w (key m rows l.sets) Lost K)) (sym (d.after_only v w (key m rows l.sets) Lost K))
       ∙ ap (up Lost) (backs_is B)
 
-  opens_is : {rows : List RowData} {b : List ℕ} {ls : List Level} {v : store.State} {p : Place} {w : store.State} {n k : ℕ} (O : Opens store m rows b ls v p w n k)
-      → opens rows b ls v ≡ record { place = p; state = w; exhausts = n; loses = k }
+  opens_is : {rows : List RowData} {b : List ℕ} {ls : List Level} {v : store.State} {p : Status} {w : store.State} {n k : ℕ} (O : Opens store m rows b ls v p w n k)
+      → opens rows b ls v ≡ record { status = p; state = w; exhausts = n; loses = k }
   opens_is {rows} {b} {ls} {v} (Opens.finds p h) = ap (opened rows ls v) h
   opens_is {rows} {b} {ls} {v} (Opens.branches l h) = ap (opened rows ls v) h
   opens_is {rows} {b} {ls} {v} (Opens.dies p w n k h B) = ap (opened rows ls v) h ∙ backs_is B
   opens_is {rows} {b} {ls} {v} (Opens.hits p w n k h B) = ap (opened rows ls v) h ∙ backs_is B
 
-  step_is : {voices : List ℕ} {rows : List RowData} {p : Place} {v : store.State} {q : Place} {w : store.State} {n k : ℕ} (S : Steps store m voices rows p v q w n k)
-      → step voices rows p v ≡ record { place = q; state = w; exhausts = n; loses = k }
+  step_is : {voices : List ℕ} {rows : List RowData} {p : Status} {v : store.State} {q : Status} {w : store.State} {n k : ℕ} (S : Steps store m voices rows p v q w n k)
+      → step voices rows p v ≡ record { status = q; state = w; exhausts = n; loses = k }
   step_is (Steps.opens_root v w p n k O) = opens_is O
   step_is (Steps.opens_child l ls v w p n k O) = opens_is O
 
-  run_over : (b : ℕ) (t : TableData) (v : store.State) → over t.place ≡ true → run b t v ≡ (t, v, 0)
+  run_over : (b : ℕ) (t : TableData) (v : store.State) → over t.status ≡ true → run b t v ≡ (t, v, 0)
   run_over zero t v e = refl
   run_over (suc b) t v e = ap (run_by (run b) t v) e
 
-  run_more : (b : ℕ) (t : TableData) (v : store.State) → over t.place ≡ false → run (suc b) t v ≡ run_on (run b) t (step t.voices t.rows t.place v)
+  run_more : (b : ℕ) (t : TableData) (v : store.State) → over t.status ≡ false → run (suc b) t v ≡ run_on (run b) t (step t.voices t.rows t.status v)
   run_more b t v e = ap (run_by (run b) t v) e
 
   run_is : {n : ℕ} {t : TableData} {v : store.State} {u : TableData} {w : store.State} {k : ℕ} (G : OpensNodes store m n t v u w k) → (b : ℕ) → n ≤ b
-      → (over u.place ≡ true) ⊎ (n ≡ b) → run b t v ≡ (u, w, k)
+      → (over u.status ≡ true) ⊎ (n ≡ b) → run b t v ≡ (u, w, k)
   run_is (OpensNodes.stay t v) zero l e = refl
   run_is (OpensNodes.stay t v) (suc b) l e = elim e [ inl o ↦ run_over (suc b) t v o | inr o ↦ absurd (omega arith) ]
   run_is (OpensNodes.more n t u v w x p i k j S G) zero l e = absurd (omega arith)
@@ -137,8 +137,8 @@ module _ (store : Behaviour) (d : Decided store) (m : Meaning) where
   comes i t v c (refused_by n) = (Answer.refused n, t, v, i)
   comes i t v (declare x) passes = (Answer.done, begun (t.voices ++ (x ∷ [])) t.rows, d.emptied v, 0)
   comes i t v (post bs) passes = (Answer.done, begun t.voices (t.rows ++ (decode m bs ∷ [])), d.emptied v, 0)
-  comes i t v (solve b) passes = (place_answer (run b t v).0.place, (run b t v).0, (run b t v).1, i + (run b t v).2)
-  comes i t v (read buffer) passes = (Answer.wrote (length (result t.place)) (result t.place ++ drop (length (result t.place)) buffer), t, v, i)
+  comes i t v (solve b) passes = (status_answer (run b t v).0.status, (run b t v).0, (run b t v).1, i + (run b t v).2)
+  comes i t v (read buffer) passes = (Answer.wrote (length (result t.status)) (result t.status ++ drop (length (result t.status)) buffer), t, v, i)
   comes i t v wipe passes = (Answer.done, empty, d.emptied v, 0)
 
   pub does_is : {t : TableData} {v : store.State} {c : Call} {a : Answer} {u : TableData} {w : store.State} (D : Does store m t v c a u w) (i : ℕ)
@@ -150,9 +150,9 @@ module _ (store : Behaviour) (d : Decided store) (m : Meaning) where
       ap (comes i t v (post bs)) j ∙ ap (λ (z : store.State). (Answer.done, begun t.voices (t.rows ++ (decode m bs ∷ [])), z, zero)) (sym (d.emptied_only v w e))
   does_is {t} {v} (Does.wipes w e) i = ap (λ (z : store.State). (Answer.done, empty, z, zero)) (sym (d.emptied_only v w e))
   does_is {t} {v} (Does.solves b u w k j S) i =
-      ap (comes i t v (solve b)) j ∙ ap (λ (r : TableData × store.State × ℕ). (place_answer r.0.place, r.0, r.1, i + r.2)) (run_is S.goes b S.inside S.ends)
+      ap (comes i t v (solve b)) j ∙ ap (λ (r : TableData × store.State × ℕ). (status_answer r.0.status, r.0, r.1, i + r.2)) (run_is S.goes b S.inside S.ends)
   does_is {t} {v} (Does.reads buffer p j e) i =
-      ap (comes i t v (read buffer)) j ∙ ap (λ (x : Place). (Answer.wrote (length (result x)) (result x ++ drop (length (result x)) buffer), t, v, i)) e
+      ap (comes i t v (read buffer)) j ∙ ap (λ (x : Status). (Answer.wrote (length (result x)) (result x ++ drop (length (result x)) buffer), t, v, i)) e
 
   only_one : (t : TableData) (v : store.State) (c : Call) (x y : CallOutcome store m t v c)
       → (x.answer ≡ y.answer) × (x.table ≡ y.table) × (x.state ≡ y.state) × ((i : ℕ) → lost_after x.does i ≡ lost_after y.does i)
@@ -169,17 +169,17 @@ module _ (store : Behaviour) (d : Decided store) (m : Meaning) where
   -- ---- there is an outcome
 
   record SomeUp (rows : List RowData) (ls : List Level) (v : store.State) : Type 0 where
-    place : Place
+    status : Status
     state : store.State
     exhausts : ℕ
     loses : ℕ
-    does : BacksUp store m rows ls v place state exhausts loses
+    does : BacksUp store m rows ls v status state exhausts loses
 
   some_up : (rows : List RowData) (ls : List Level) (v : store.State) → SomeUp rows ls v
-  some_up rows [] v = record { place = unsolvable; state = v; exhausts = 0; loses = 0; does = BacksUp.at_root v }
+  some_up rows [] v = record { status = unsolvable; state = v; exhausts = 0; loses = 0; does = BacksUp.at_root v }
   some_up rows (l ∷ ls) v =
       elim (cases_Bool (eqb l.left 0)) [
-        | inr z ↦ record { place = going l ls; state = v; exhausts = 0; loses = 0; does = BacksUp.goes_on l ls v z }
+        | inr z ↦ record { status = going l ls; state = v; exhausts = 0; loses = 0; does = BacksUp.goes_on l ls v z }
         | inl z ↦ go rows l ls v z (d.answer v (key m rows l.sets)) refl (some_up rows ls (d.after v (key m rows l.sets)))
       ]
     where
@@ -189,53 +189,53 @@ module _ (store : Behaviour) (d : Decided store) (m : Meaning) where
           let w = d.after v (key m rows l.sets) in
           let K = subst (λ (a : Stored). store.keeps v (key m rows l.sets) a w) e (d.keeps v (key m rows l.sets)) in
           record {
-            place = r.place;
+            status = r.status;
             state = r.state;
             exhausts = suc r.exhausts;
             loses = r.loses;
-            does = BacksUp.key_kept l ls v w r.state r.place r.exhausts r.loses z K r.does;
+            does = BacksUp.key_kept l ls v w r.state r.status r.exhausts r.loses z K r.does;
           }
       go rows l ls v z Lost e r =
           let w = d.after v (key m rows l.sets) in
           let K = subst (λ (a : Stored). store.keeps v (key m rows l.sets) a w) e (d.keeps v (key m rows l.sets)) in
           record {
-            place = r.place;
+            status = r.status;
             state = r.state;
             exhausts = suc r.exhausts;
             loses = suc r.loses;
-            does = BacksUp.key_lost l ls v w r.state r.place r.exhausts r.loses z K r.does;
+            does = BacksUp.key_lost l ls v w r.state r.status r.exhausts r.loses z K r.does;
           }
 
   record SomeOpen (rows : List RowData) (b : List ℕ) (ls : List Level) (v : store.State) : Type 0 where
-    place : Place
+    status : Status
     state : store.State
     exhausts : ℕ
     loses : ℕ
-    does : Opens store m rows b ls v place state exhausts loses
+    does : Opens store m rows b ls v status state exhausts loses
 
   some_open : (rows : List RowData) (b : List ℕ) (ls : List Level) (v : store.State) → SomeOpen rows b ls v
   some_open rows b ls v = go (node m rows (store.view v) (below ls) (propagated m rows b)) refl (some_up rows ls v)
     where
       go : (x : Node) → node m rows (store.view v) (below ls) (propagated m rows b) ≡ x → SomeUp rows ls v → SomeOpen rows b ls v
-      go dead e r = record { place = r.place; state = r.state; exhausts = r.exhausts; loses = r.loses; does = Opens.dies r.place r.state r.exhausts r.loses e r.does }
-      go hit e r = record { place = r.place; state = r.state; exhausts = r.exhausts; loses = r.loses; does = Opens.hits r.place r.state r.exhausts r.loses e r.does }
-      go (solution p) e r = record { place = solved p; state = v; exhausts = 0; loses = 0; does = Opens.finds p e }
-      go (branch l) e r = record { place = going l ls; state = v; exhausts = 0; loses = 0; does = Opens.branches l e }
+      go dead e r = record { status = r.status; state = r.state; exhausts = r.exhausts; loses = r.loses; does = Opens.dies r.status r.state r.exhausts r.loses e r.does }
+      go hit e r = record { status = r.status; state = r.state; exhausts = r.exhausts; loses = r.loses; does = Opens.hits r.status r.state r.exhausts r.loses e r.does }
+      go (solution p) e r = record { status = solved p; state = v; exhausts = 0; loses = 0; does = Opens.finds p e }
+      go (branch l) e r = record { status = going l ls; state = v; exhausts = 0; loses = 0; does = Opens.branches l e }
 
-  record SomeStep (voices : List ℕ) (rows : List RowData) (p : Place) (v : store.State) : Type 0 where
-    place : Place
+  record SomeStep (voices : List ℕ) (rows : List RowData) (p : Status) (v : store.State) : Type 0 where
+    status : Status
     state : store.State
     exhausts : ℕ
     loses : ℕ
-    does : Steps store m voices rows p v place state exhausts loses
+    does : Steps store m voices rows p v status state exhausts loses
 
-  some_step : (voices : List ℕ) (rows : List RowData) (p : Place) (v : store.State) → (over p ≡ true) ⊎ SomeStep voices rows p v
+  some_step : (voices : List ℕ) (rows : List RowData) (p : Status) (v : store.State) → (over p ≡ true) ⊎ SomeStep voices rows p v
   some_step voices rows fresh v =
       let r = some_open rows voices [] v in
-      inr (record { place = r.place; state = r.state; exhausts = r.exhausts; loses = r.loses; does = Steps.opens_root v r.state r.place r.exhausts r.loses r.does })
+      inr (record { status = r.status; state = r.state; exhausts = r.exhausts; loses = r.loses; does = Steps.opens_root v r.state r.status r.exhausts r.loses r.does })
   some_step voices rows (going l ls) v =
       let r = some_open rows (child l) (taken l ∷ ls) v in
-      inr (record { place = r.place; state = r.state; exhausts = r.exhausts; loses = r.loses; does = Steps.opens_child l ls v r.state r.place r.exhausts r.loses r.does })
+      inr (record { status = r.status; state = r.state; exhausts = r.exhausts; loses = r.loses; does = Steps.opens_child l ls v r.state r.status r.exhausts r.loses r.does })
   some_step voices rows (solved p) v = inl refl
   some_step voices rows unsolvable v = inl refl
 
@@ -248,10 +248,10 @@ module _ (store : Behaviour) (d : Decided store) (m : Meaning) where
   some_solve : (b : ℕ) (t : TableData) (v : store.State) → SomeSolve b t v
   some_solve zero t v = record { table = t; state = v; loses = 0; does = record { count = 0; inside = omega arith; goes = OpensNodes.stay t v; ends = inr refl } }
   some_solve (suc b) t v =
-      elim (some_step t.voices t.rows t.place v) [
+      elim (some_step t.voices t.rows t.status v) [
         | inl e ↦ record { table = t; state = v; loses = 0; does = record { count = 0; inside = omega arith; goes = OpensNodes.stay t v; ends = inl e } }
         | inr q ↦
-            let r = some_solve b (next t (record { place = q.place; state = q.state; exhausts = q.exhausts; loses = q.loses })) q.state in
+            let r = some_solve b (next t (record { status = q.status; state = q.state; exhausts = q.exhausts; loses = q.loses })) q.state in
             record {
               table = r.table;
               state = r.state;
@@ -259,13 +259,13 @@ module _ (store : Behaviour) (d : Decided store) (m : Meaning) where
               does = record {
                 count = suc r.does.count;
                 inside = omega (arith, r.does.inside);
-                goes = OpensNodes.more r.does.count t r.table v q.state r.state q.place q.exhausts q.loses r.loses q.does r.does.goes;
+                goes = OpensNodes.more r.does.count t r.table v q.state r.state q.status q.exhausts q.loses r.loses q.does r.does.goes;
                 ends = elim r.does.ends [ inl e ↦ inl e | inr e ↦ inr (ap suc e) ];
               };
             }
       ]
 
-  found_by : (x : Place) → is_found x ≡ true → x ≡ solved (result x)
+  found_by : (x : Status) → is_found x ≡ true → x ≡ solved (result x)
   found_by fresh e = absurd (both_ways false refl e)
   found_by (going l ls) e = absurd (both_ways false refl e)
   found_by (solved p) e = refl
@@ -282,14 +282,14 @@ module _ (store : Behaviour) (d : Decided store) (m : Meaning) where
           record { answer = Answer.done; table = begun t.voices (t.rows ++ (decode m bs ∷ [])); state = d.emptied v; does = Does.posts bs (d.emptied v) e (d.empties v) }
       go (solve b) passes e =
           let r = some_solve b t v in
-          record { answer = place_answer r.table.place; table = r.table; state = r.state; does = Does.solves b r.table r.state r.loses e r.does }
+          record { answer = status_answer r.table.status; table = r.table; state = r.state; does = Does.solves b r.table r.state r.loses e r.does }
       go (read buffer) passes e =
-          let p = result t.place in
+          let p = result t.status in
           record {
             answer = Answer.wrote (length p) (p ++ drop (length p) buffer);
             table = t;
             state = v;
-            does = Does.reads buffer p e (found_by t.place (not-false (is_found t.place) (none_fits (reasons m t (read buffer)) e).0));
+            does = Does.reads buffer p e (found_by t.status (not-false (is_found t.status) (none_fits (reasons m t (read buffer)) e).0));
           }
       go wipe passes e = record { answer = Answer.done; table = empty; state = d.emptied v; does = Does.wipes (d.emptied v) (d.empties v) }
 

@@ -43,7 +43,7 @@ module _ (b : Behaviour) where
   limits_hold m g h t s H = limits.limits_hold m h t (b.view s) (history_any b m H)
 
   solve_leaves : (m : Meaning) (t : TableData) (s : b.State) (budget : ℕ) (a : Answer) (u : TableData) (r : b.State)
-      → judged m t (solve budget) ≡ Judgement.passes → Does b m t s (solve budget) a u r → over t.place ≡ true → r ≡ s
+      → judged m t (solve budget) ≡ Judgement.passes → Does b m t s (solve budget) a u r → over t.status ≡ true → r ≡ s
   solve_leaves m t s budget a u r j (Does.refuses c n d) o = absurd (not_both d j)
   solve_leaves m t s budget a u r j (Does.solves budget' u' r' lost _ S) o = goes_over b m S.goes o
 

@@ -5,7 +5,7 @@ use Rattle.sets.specs.Placings.{some_empty, all_fixed, values}
 use Rattle.rows.specs.Rows.{RowData, Meaning}
 use Rattle.stores.specs.Stores.{View}
 use Rattle.search.specs.Propagation.{propagated}
-use Rattle.search.specs.Search.{Place, Level, Node, Lowest, below, node, child, taken}
+use Rattle.search.specs.Search.{Status, Level, Node, Lowest, below, node, child, taken}
 use Rattle.search.specs.Calls.{TableData}
 
 -- the voice k is above that of the newest of these levels
@@ -44,8 +44,8 @@ pub record NodeLowest (m : Meaning) (rows : List RowData) (v : View) (ls : List 
 
 -- a table's levels, and the node that is opened next
 pub record TableLowest (m : Meaning) (t : TableData) (v : View) : Type 0 where
-  pub levels : (l : Level) (ls : List Level) → t.place ≡ Place.going l ls
+  pub levels : (l : Level) (ls : List Level) → t.status ≡ Status.going l ls
       → Ascending (length t.voices) (l ∷ ls)
-  pub root : t.place ≡ Place.fresh → NodeLowest m t.rows v [] t.voices
-  pub next : (l : Level) (ls : List Level) → t.place ≡ Place.going l ls
+  pub root : t.status ≡ Status.fresh → NodeLowest m t.rows v [] t.voices
+  pub next : (l : Level) (ls : List Level) → t.status ≡ Status.going l ls
       → NodeLowest m t.rows v (taken l ∷ ls) (child l)

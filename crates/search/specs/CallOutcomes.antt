@@ -4,7 +4,7 @@ use Rattle.rows.specs.Rows.{RowData, Meaning}
 use Rattle.stores.specs.Keys.{key}
 use Rattle.stores.specs.Stores.{is_held, View}
 use Rattle.stores.specs.Behaviours.{Behaviour}
-use Rattle.search.specs.Search.{Level, Place, BacksUp, Opens, Steps}
+use Rattle.search.specs.Search.{Level, Status, BacksUp, Opens, Steps}
 use Rattle.search.specs.Calls.{TableData, Call, Answer, Does, lost_after}
 
 -- what a call can come to over this store
@@ -35,7 +35,7 @@ SameKeys v w = (x : List ℕ) → is_held x v.held ≡ is_held x w.held
 
 -- none of the keys of the nodes that are exhausted in backing up is held when it goes to the store
 abbrev pub BacksNew : {b : Behaviour} {m : Meaning} {rows : List RowData} {ls : List Level}
-    {s : b.State} {p : Place} {t : b.State} {n k : ℕ} → BacksUp b m rows ls s p t n k → Type 0
+    {s : b.State} {p : Status} {t : b.State} {n k : ℕ} → BacksUp b m rows ls s p t n k → Type 0
 BacksNew (BacksUp.at_root s) = Unit {0}
 BacksNew (BacksUp.goes_on l ls s z) = Unit {0}
 BacksNew {b} {m} {rows} (BacksUp.key_kept l ls s t u p n k z K B) =
@@ -45,7 +45,7 @@ BacksNew {b} {m} {rows} (BacksUp.key_lost l ls s t u p n k z K B) =
 
 -- none of those that the opening of a node exhausts
 abbrev pub OpensNew : {b : Behaviour} {m : Meaning} {rows : List RowData} {sets : List ℕ}
-    {ls : List Level} {s : b.State} {p : Place} {t : b.State} {n k : ℕ}
+    {ls : List Level} {s : b.State} {p : Status} {t : b.State} {n k : ℕ}
     → Opens b m rows sets ls s p t n k → Type 0
 OpensNew (Opens.finds p h) = Unit {0}
 OpensNew (Opens.branches l h) = Unit {0}
@@ -54,7 +54,7 @@ OpensNew (Opens.hits p t n k h B) = BacksNew B
 
 -- none of those that one node exhausts
 abbrev pub StepsNew : {b : Behaviour} {m : Meaning} {voices : List ℕ} {rows : List RowData}
-    {p : Place} {s : b.State} {q : Place} {t : b.State} {n k : ℕ}
+    {p : Status} {s : b.State} {q : Status} {t : b.State} {n k : ℕ}
     → Steps b m voices rows p s q t n k → Type 0
 StepsNew (Steps.opens_root s t p n k O) = OpensNew O
 StepsNew (Steps.opens_child l ls s t p n k O) = OpensNew O

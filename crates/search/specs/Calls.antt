@@ -6,48 +6,48 @@ use Rattle.rows.specs.Reasons.{Judgement, judge, voice_reasons, row_reasons}
 use Rattle.rows.specs.Reasons.Judgement.{passes, refused_by}
 use Rattle.stores.specs.Behaviours.{Behaviour}
 use Rattle.rows.specs.declared.limits.TheConstants.{MOST_BUDGET, MOST_OPENED}
-use Rattle.search.specs.Search.{Place, Steps}
+use Rattle.search.specs.Search.{Status, Steps}
 
 -- ---- tables
 
--- the opening sets of the voices, the rows, where the search stands, the nodes opened since it
+-- the opening sets of the voices, the rows, the status of the search, the nodes opened since it
 -- began and those exhausted since the store was emptied
 pub record TableData : Type 0 where
   pub voices : List ℕ
   pub rows : List RowData
-  pub place : Place
+  pub status : Status
   pub opened : ℕ
   pub exhausted : ℕ
 
 -- a table whose search has not begun
 abbrev pub begun : List ℕ → List RowData → TableData
 begun voices rows =
-    record { voices = voices; rows = rows; place = Place.fresh; opened = 0; exhausted = 0 }
+    record { voices = voices; rows = rows; status = Status.fresh; opened = 0; exhausted = 0 }
 
 -- a table with no voices and no rows
 abbrev pub empty : TableData
 empty = begun [] []
 
 -- the search is over
-abbrev pub over : Place → Bool
-over Place.fresh = false
-over (Place.going l ls) = false
-over (Place.solved p) = true
-over Place.unsolvable = true
+abbrev pub over : Status → Bool
+over Status.fresh = false
+over (Status.going l ls) = false
+over (Status.solved p) = true
+over Status.unsolvable = true
 
 -- it is over and has found values
-abbrev pub is_found : Place → Bool
-is_found Place.fresh = false
-is_found (Place.going l ls) = false
-is_found (Place.solved p) = true
-is_found Place.unsolvable = false
+abbrev pub is_found : Status → Bool
+is_found Status.fresh = false
+is_found (Status.going l ls) = false
+is_found (Status.solved p) = true
+is_found Status.unsolvable = false
 
 -- the found values
-abbrev pub result : Place → List ℕ
-result Place.fresh = []
-result (Place.going l ls) = []
-result (Place.solved p) = p
-result Place.unsolvable = []
+abbrev pub result : Status → List ℕ
+result Status.fresh = []
+result (Status.going l ls) = []
+result (Status.solved p) = p
+result Status.unsolvable = []
 
 -- ---- calls and answers
 
@@ -85,10 +85,10 @@ reasons m t (declare s) = voice_reasons t.voices s
 reasons m t (post bs) = row_reasons m t.voices t.rows bs
 reasons m t (solve b) =
     (13, (b == 0) || nat_lt MOST_BUDGET b)
-    ∷ (14, not (over t.place) && nat_lt MOST_OPENED (t.opened + b))
+    ∷ (14, not (over t.status) && nat_lt MOST_OPENED (t.opened + b))
     ∷ []
 reasons m t (read buffer) =
-    (15, not (is_found t.place)) ∷ (16, nat_lt (length buffer) (length (result t.place))) ∷ []
+    (15, not (is_found t.status)) ∷ (16, nat_lt (length buffer) (length (result t.status))) ∷ []
 reasons m t wipe = []
 
 -- what becomes of this call
@@ -97,12 +97,12 @@ judged m t c = judge (reasons m t c)
 
 -- ---- Solve
 
--- the table after one node more: where the search then stands, and how many levels were exhausted
-abbrev pub node_more : TableData → Place → ℕ → TableData
+-- the table after one node more: the status of the search then, and how many levels were exhausted
+abbrev pub node_more : TableData → Status → ℕ → TableData
 node_more t p n = record {
   voices = t.voices;
   rows = t.rows;
-  place = p;
+  status = p;
   opened = t.opened + 1;
   exhausted = t.exhausted + n;
 }
@@ -112,8 +112,8 @@ node_more t p n = record {
 pub data OpensNodes (b : Behaviour) (m : Meaning) : ℕ → TableData → b.State → TableData → b.State
     → ℕ → Type 0 where
   stay : (t : TableData) (s : b.State) → OpensNodes b m zero t s t s 0
-  more : (i : ℕ) (t u : TableData) (s r x : b.State) (p : Place) (n k lost : ℕ)
-      → Steps b m t.voices t.rows t.place s p r n k
+  more : (i : ℕ) (t u : TableData) (s r x : b.State) (p : Status) (n k lost : ℕ)
+      → Steps b m t.voices t.rows t.status s p r n k
       → OpensNodes b m i (node_more t p n) r u x lost
       → OpensNodes b m (suc i) t s u x (k + lost)
 
@@ -124,14 +124,14 @@ pub record Solved (b : Behaviour) (m : Meaning) (budget : ℕ) (t : TableData) (
   pub count : ℕ
   pub inside : count ≤ budget
   pub goes : OpensNodes b m count t s u r lost
-  pub ends : (over u.place ≡ true) ⊎ (count ≡ budget)
+  pub ends : (over u.status ≡ true) ⊎ (count ≡ budget)
 
 -- Solve's answer where the search has come to this
-abbrev pub place_answer : Place → Answer
-place_answer Place.fresh = stopped
-place_answer (Place.going l ls) = stopped
-place_answer (Place.solved p) = found p
-place_answer Place.unsolvable = none
+abbrev pub status_answer : Status → Answer
+status_answer Status.fresh = stopped
+status_answer (Status.going l ls) = stopped
+status_answer (Status.solved p) = found p
+status_answer Status.unsolvable = none
 
 -- ---- what a call does to a table and its store
 
@@ -149,9 +149,9 @@ pub data Does (b : Behaviour) (m : Meaning) (t : TableData) (s : b.State) : Call
   -- Solve goes on from where the last one stopped
   solves : (budget : ℕ) (u : TableData) (r : b.State) (lost : ℕ)
       → judged m t (solve budget) ≡ passes
-      → Solved b m budget t s u r lost → Does b m t s (solve budget) (place_answer u.place) u r
+      → Solved b m budget t s u r lost → Does b m t s (solve budget) (status_answer u.status) u r
   -- the values at the front of the buffer, and the bytes beyond as they were
-  reads : (buffer p : List ℕ) → judged m t (read buffer) ≡ passes → t.place ≡ Place.solved p
+  reads : (buffer p : List ℕ) → judged m t (read buffer) ≡ passes → t.status ≡ Status.solved p
       → Does b m t s (read buffer) (wrote (length p) (p ++ drop (length p) buffer)) t s
 
 -- How many keys the store has lost since it was emptied, where it had lost n before this call. No

@@ -10,9 +10,9 @@ use Rattle.rows.specs.Bytes.{Bytes, LaidOut, total_bytes}
 use Rattle.stores.specs.Stores.{View, distinct_keys}
 use Rattle.rows.specs.declared.limits.TheConstants.{MOST_VOICES, MOST_ROWS, MOST_BYTES, MOST_OPENED}
 use Rattle.search.specs.Propagation.{round, rounds, size}
-use Rattle.search.specs.Search.{Place}
+use Rattle.search.specs.Search.{Status}
 use Rattle.rows.specs.Placed.{AllHold, Least, Lawless}
-use Rattle.search.specs.Calls.{TableData, Answer, over, place_answer}
+use Rattle.search.specs.Calls.{TableData, Answer, over, status_answer}
 
 -- ---- propagation
 
@@ -58,8 +58,8 @@ pub record Projects (m : Meaning) (rows : List RowData) (s t : List ℕ) : Type 
 pub record Invariant (m : Meaning) (lost : ℕ) (t : TableData) (v : View) : Type 0 where
   -- what a finished search has found is the least lawful placing; where it has found none, there is
   -- none
-  pub found_least : (p : List ℕ) → t.place ≡ Place.solved p → Least m t.voices t.rows p
-  pub none_lawful : t.place ≡ Place.unsolvable → Lawless m t.voices t.rows
+  pub found_least : (p : List ℕ) → t.status ≡ Status.solved p → Least m t.voices t.rows p
+  pub none_lawful : t.status ≡ Status.unsolvable → Lawless m t.voices t.rows
   -- a store that has lost no key holds as many as nodes were exhausted
   pub all_kept : lost ≡ 0 → length v.held ≡ t.exhausted
   -- no key occurs twice
@@ -118,13 +118,13 @@ pub record Budgeted (t : TableData) (budget : ℕ) (a : Answer) (u : TableData) 
   pub at_least : t.opened ≤ u.opened
   pub at_most : u.opened ≤ t.opened + budget
   pub stopped_exactly : (a ≡ Answer.stopped)
-      ↔ ((u.opened ≡ t.opened + budget) × (over u.place ≡ false))
+      ↔ ((u.opened ≡ t.opened + budget) × (over u.status ≡ false))
   -- its answer is what it finished with, and no voice or row is altered
-  pub answer : a ≡ place_answer u.place
+  pub answer : a ≡ status_answer u.status
   pub same_voices : u.voices ≡ t.voices
   pub same_rows : u.rows ≡ t.rows
   -- a finished table repeats its result
-  pub repeats : over t.place ≡ true → u ≡ t
+  pub repeats : over t.status ≡ true → u ≡ t
 
 -- the number n is one of a call's refusals that fit
 abbrev pub reason_fits : ℕ → List (ℕ × Bool) → Bool

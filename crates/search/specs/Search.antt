@@ -18,13 +18,13 @@ pub record Level : Type 0 where
   pub voice : ℕ
   pub left : ℕ
 
--- where a search stands: its root is not opened yet; a child of the newest level is opened next
--- (the older levels follow, newest first); it has found these values; there is no lawful placing
-pub data Place : Type 0 where
-  fresh : Place
-  going : Level → List Level → Place
-  solved : List ℕ → Place
-  unsolvable : Place
+-- The status of a search: its root is not opened yet; a child of the newest level is opened next
+-- (the older levels follow, newest first); it has found these values; there is no lawful placing.
+pub data Status : Type 0 where
+  fresh : Status
+  going : Level → List Level → Status
+  solved : List ℕ → Status
+  unsolvable : Status
 
 -- ---- the voice that a node branches on
 
@@ -90,42 +90,42 @@ taken l = record { sets = l.sets; voice = l.voice; left = l.left - only (least l
 -- Over a store with the behaviour b, which is in the state s before and t afterwards.
 
 -- Backing up (backtracking) from a failed node below these levels: a level with no value left to
--- try is exhausted, and its key goes to the store. Where the search stands then, the store's state,
+-- try is exhausted, and its key goes to the store. The search's status then, the store's state,
 -- how many levels were exhausted and how many keys were lost.
-pub data BacksUp (b : Behaviour) (m : Meaning) (rows : List RowData) : List Level → b.State → Place
+pub data BacksUp (b : Behaviour) (m : Meaning) (rows : List RowData) : List Level → b.State → Status
     → b.State → ℕ → ℕ → Type 0 where
   at_root : (s : b.State) → BacksUp b m rows [] s unsolvable s 0 0
   goes_on : (l : Level) (ls : List Level) (s : b.State) → (l.left == 0) ≡ false
       → BacksUp b m rows (l ∷ ls) s (going l ls) s 0 0
-  key_kept : (l : Level) (ls : List Level) (s t u : b.State) (p : Place) (n k : ℕ)
+  key_kept : (l : Level) (ls : List Level) (s t u : b.State) (p : Status) (n k : ℕ)
       → (l.left == 0) ≡ true
       → b.keeps s (key m rows l.sets) Kept t → BacksUp b m rows ls t p u n k
       → BacksUp b m rows (l ∷ ls) s p u (suc n) k
-  key_lost : (l : Level) (ls : List Level) (s t u : b.State) (p : Place) (n k : ℕ)
+  key_lost : (l : Level) (ls : List Level) (s t u : b.State) (p : Status) (n k : ℕ)
       → (l.left == 0) ≡ true
       → b.keeps s (key m rows l.sets) Lost t → BacksUp b m rows ls t p u n k
       → BacksUp b m rows (l ∷ ls) s p u (suc n) (suc k)
 
 -- Opening the node with the given sets below the levels ls: the same four things.
 pub data Opens (b : Behaviour) (m : Meaning) (rows : List RowData) (sets : List ℕ) (ls : List Level)
-    (s : b.State) : Place → b.State → ℕ → ℕ → Type 0 where
+    (s : b.State) : Status → b.State → ℕ → ℕ → Type 0 where
   finds : (p : List ℕ) → node m rows (b.view s) (below ls) (propagated m rows sets) ≡ solution p
       → Opens b m rows sets ls s (solved p) s 0 0
   branches : (l : Level) → node m rows (b.view s) (below ls) (propagated m rows sets) ≡ branch l
       → Opens b m rows sets ls s (going l ls) s 0 0
-  dies : (p : Place) (t : b.State) (n k : ℕ)
+  dies : (p : Status) (t : b.State) (n k : ℕ)
       → node m rows (b.view s) (below ls) (propagated m rows sets) ≡ dead
       → BacksUp b m rows ls s p t n k → Opens b m rows sets ls s p t n k
-  hits : (p : Place) (t : b.State) (n k : ℕ)
+  hits : (p : Status) (t : b.State) (n k : ℕ)
       → node m rows (b.view s) (below ls) (propagated m rows sets) ≡ hit
       → BacksUp b m rows ls s p t n k → Opens b m rows sets ls s p t n k
 
 -- One node: the root, with the opening sets, of a fresh search, or the next child of the newest
 -- level.
-pub data Steps (b : Behaviour) (m : Meaning) (voices : List ℕ) (rows : List RowData) : Place
-    → b.State → Place → b.State → ℕ → ℕ → Type 0 where
-  opens_root : (s t : b.State) (p : Place) (n k : ℕ) → Opens b m rows voices [] s p t n k
+pub data Steps (b : Behaviour) (m : Meaning) (voices : List ℕ) (rows : List RowData) : Status
+    → b.State → Status → b.State → ℕ → ℕ → Type 0 where
+  opens_root : (s t : b.State) (p : Status) (n k : ℕ) → Opens b m rows voices [] s p t n k
       → Steps b m voices rows fresh s p t n k
-  opens_child : (l : Level) (ls : List Level) (s t : b.State) (p : Place) (n k : ℕ)
+  opens_child : (l : Level) (ls : List Level) (s t : b.State) (p : Status) (n k : ℕ)
       → Opens b m rows (child l) (taken l ∷ ls) s p t n k
       → Steps b m voices rows (going l ls) s p t n k

@@ -6,7 +6,7 @@ use Rattle.rows.specs.Laws.{Laws}
 use Rattle.stores.specs.Keys.{key}
 use Rattle.stores.specs.Behaviours.{Behaviour}
 use Rattle.search.specs.Propagation.{propagated}
-use Rattle.search.specs.Search.{Place, Level, Steps}
+use Rattle.search.specs.Search.{Status, Level, Steps}
 use Rattle.rows.specs.Placed.{AllAccepted, Lawful, SameLeast}
 use Rattle.rows.specs.Reasons.{Judgement}
 use Rattle.search.specs.Calls.{TableData, Call, Answer, reasons, judged, over, OpensNodes, Does}
@@ -68,7 +68,7 @@ LevelsRise b =
     (m : Meaning) (g : b.State) (h : List (Call × Answer)) (t : TableData) (s : b.State)
     → History b m g h t s
     → (n lost : ℕ) (u : TableData) (r : b.State) → OpensNodes b m n t s u r lost
-    → (l : Level) (ls : List Level) → u.place ≡ Place.going l ls → Rising (l ∷ ls)
+    → (l : Level) (ls : List Level) → u.status ≡ Status.going l ls → Rising (l ∷ ls)
 
 -- A key that goes to the store when a node is exhausted is not held already, at every node that a
 -- Solve opens after any history.
@@ -77,7 +77,7 @@ NeverTwice b =
     (m : Meaning) → Laws m → (g : b.State) (h : List (Call × Answer)) (t : TableData) (s : b.State)
     → History b m g h t s
     → (n lost : ℕ) (u : TableData) (r : b.State) → OpensNodes b m n t s u r lost
-    → (p : Place) (x : b.State) (i k : ℕ) (S : Steps b m u.voices u.rows u.place r p x i k)
+    → (p : Status) (x : b.State) (i k : ℕ) (S : Steps b m u.voices u.rows u.status r p x i k)
     → StepsNew S
 
 -- ---- answers
@@ -128,7 +128,7 @@ SolveKeepsBudget b =
     (m : Meaning) (t : TableData) (s : b.State) (budget : ℕ) (a : Answer) (u : TableData)
     (r : b.State)
     → judged m t (solve budget) ≡ Judgement.passes → Does b m t s (solve budget) a u r
-    → Budgeted t budget a u × (over t.place ≡ true → r ≡ s)
+    → Budgeted t budget a u × (over t.status ≡ true → r ≡ s)
 
 -- A call is refused under the smallest number that fits, and passes exactly when none does.
 abbrev pub RefusalsSmallest : Type 0

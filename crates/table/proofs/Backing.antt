@@ -3,18 +3,18 @@ use Rattle.std.proofs.Common.{◌≡◌, ℕ, suc, ◌+◌, true, false, eqb, Li
 use Rattle.rows.specs.Rows.{RowData, Meaning}
 use Rattle.stores.specs.Keys.{key}
 use Rattle.stores.specs.Behaviours.{Behaviour}
-use Rattle.search.specs.Search.{Level, Place, BacksUp}
+use Rattle.search.specs.Search.{Level, Status, BacksUp}
 use Rattle.stores.specs.declared.store.Stored.{Stored}
 use Rattle.stores.specs.declared.store.Stored.TheVariants.{Kept, Lost}
-use Rattle.table.specs.Levels.{is_none, is_spent, newest_sets, without_newest, place_backed_up, Backed}
+use Rattle.table.specs.Levels.{is_none, is_spent, newest_sets, without_newest, status_backed_up, Backed}
 
 -- so many levels are exhausted, and what follows below the levels ls follows below those at the start
 pub record Behind (st : Behaviour) (m : Meaning) (rows : List RowData) (start : List Level) (v : st.State) (ls : List Level) (w : st.State) (n : ℕ) : Type 0 where
   pub lost : ℕ
-  pub carry : (p : Place) (u : st.State) (a b : ℕ) → BacksUp st m rows ls w p u a b → BacksUp st m rows start v p u (n + a) (lost + b)
+  pub carry : (p : Status) (u : st.State) (a b : ℕ) → BacksUp st m rows ls w p u a b → BacksUp st m rows start v p u (n + a) (lost + b)
 
 module _ (st : Behaviour) (m : Meaning) (rows : List RowData) where
-  recount : {ls : List Level} {v : st.State} {p : Place} {u : st.State} {a b c d : ℕ} → a ≡ c → b ≡ d → BacksUp st m rows ls v p u a b → BacksUp st m rows ls v p u c d
+  recount : {ls : List Level} {v : st.State} {p : Status} {u : st.State} {a b c d : ℕ} → a ≡ c → b ≡ d → BacksUp st m rows ls v p u a b → BacksUp st m rows ls v p u c d
   recount {ls} {v} {p} {u} {a} {b} {c} {d} e f h = subst (λ x. BacksUp st m rows ls v p u c x) f (subst (λ x. BacksUp st m rows ls v p u x b) e h)
 
   pub behind_none : (ls : List Level) (v : st.State) (n : ℕ) → n ≡ 0 → Behind st m rows ls v ls v n
@@ -33,13 +33,13 @@ module _ (st : Behaviour) (m : Meaning) (rows : List RowData) where
   behind_more start v [] w x i k r z e h b = cc
   behind_more start v (l ∷ ls) w x i k r z e h b = more start v l ls w x i k r e z h b
 
-  stops : (ls : List Level) (w : st.State) → is_spent ls ≡ false → BacksUp st m rows ls w (place_backed_up ls) w 0 0
+  stops : (ls : List Level) (w : st.State) → is_spent ls ≡ false → BacksUp st m rows ls w (status_backed_up ls) w 0 0
   stops [] w z = BacksUp.at_root w
   stops (l ∷ ls) w z = BacksUp.goes_on l ls w z
 
   -- no level is left, or the newest has a value left to try
   pub backed : (start : List Level) (v : st.State) (ls : List Level) (w : st.State) (n : ℕ) → is_spent ls ≡ false → Behind st m rows start v ls w n → Backed st m rows start v ls w n
-  backed start v ls w n z b = record { lost = b.lost; backs = recount (omega arith) (omega arith) (b.carry (place_backed_up ls) w 0 0 (stops ls w z)) }
+  backed start v ls w n z b = record { lost = b.lost; backs = recount (omega arith) (omega arith) (b.carry (status_backed_up ls) w 0 0 (stops ls w z)) }
 
 -- a level is there
 pub there : (ls : List Level) → is_spent ls ≡ true → is_none ls ≡ false

@@ -7,10 +7,10 @@ use Rattle.rows.specs.Rows.{RowData, Meaning}
 use Rattle.rows.specs.Laws.{Laws}
 use Rattle.rows.specs.Bytes.{decode}
 use Rattle.stores.specs.Behaviours.{Behaviour}
-use Rattle.search.specs.Search.{Level, Place}
-use Rattle.search.specs.Search.Place.{fresh, going, solved, unsolvable}
+use Rattle.search.specs.Search.{Level, Status}
+use Rattle.search.specs.Search.Status.{fresh, going, solved, unsolvable}
 use Rattle.rows.specs.Reasons.{Judgement}
-use Rattle.search.specs.Calls.{TableData, begun, Call, Answer, Formed, judged, is_found, result, place_answer, Does}
+use Rattle.search.specs.Calls.{TableData, begun, Call, Answer, Formed, judged, is_found, result, status_answer, Does}
 use Rattle.search.specs.Calls.Call.{declare, post, solve, read, wipe}
 use Rattle.search.specs.Histories.{History}
 use Rattle.search.proofs.AnyStore.{goes_any}
@@ -21,8 +21,8 @@ use Rattle.table.specs.declared.engine.level.End.TheVariants.{Fresh, Found, Exha
 use Rattle.table.specs.declared.outcome.Outcome.{Outcome}
 use Rattle.table.specs.declared.outcome.Outcome.TheVariants as out
 use Rattle.table.specs.declared.engine.state.Search.{Search}
-use Rattle.table.specs.Places.{place_of}
-use Rattle.table.specs.Searches.{place_in, table_of, Begun, outcome_of, Runs}
+use Rattle.table.specs.Statuses.{status_of}
+use Rattle.table.specs.Searches.{status_in, table_of, Begun, outcome_of, Runs}
 use Rattle.table.specs.declared.refusal.Refusal.{Refusal}
 use Rattle.table.specs.Shown.{outcome_answer}
 use Rattle.table.specs.CallLaws.{AnswerMeans, ReadMeans, ExtendsHistories}
@@ -56,7 +56,7 @@ module _ (st : Behaviour) (m : Meaning) (L : Laws m) where
 
 pub begun_table : (voices : List ℕ) (rows : List RowData) (n : ℕ) (s : Search) → Begun n s → table_of voices rows s ≡ begun voices rows
 begun_table voices rows n s b =
-    let at : List Level → End → ℕ → ℕ → TableData = λ ls e o x. record { voices = voices; rows = rows; place = place_of e (vec_items s.sets) ls; opened = o; exhausted = x } in
+    let at : List Level → End → ℕ → ℕ → TableData = λ ls e o x. record { voices = voices; rows = rows; status = status_of e (vec_items s.sets) ls; opened = o; exhausted = x } in
     ap (λ (ls : List Level). at ls s.end s.opened s.exhausted) b.level_none
     ∙ ap (λ (e : End). at [] e s.opened s.exhausted) b.fresh_end
     ∙ ap (λ (o : ℕ). at [] Fresh o s.exhausted) b.none_opened
@@ -105,17 +105,17 @@ made_by st m voices s g w n e b h =
     let to : table_of voices [] s ≡ begun [] [] = begun_table voices [] n s b ∙ ap (λ (y : List ℕ). begun y []) e in
     subst (λ (y : TableData). History st m g [] y w) (sym to) (History.made w h)
 
-outcome_says : (p : Place) → outcome_answer (outcome_of p) (result p) ≡ place_answer p
+outcome_says : (p : Status) → outcome_answer (outcome_of p) (result p) ≡ status_answer p
 outcome_says fresh = refl
 outcome_says (going l ls) = refl
 outcome_says (solved p) = refl
 outcome_says unsolvable = refl
 
-pub solves_by : (st : Behaviour) (m : Meaning) (voices : List ℕ) (rows : List RowData) (s s' : Search) (v w : st.State) (b : ℕ) (o : Outcome) → o ≡ outcome_of (place_in s')
+pub solves_by : (st : Behaviour) (m : Meaning) (voices : List ℕ) (rows : List RowData) (s s' : Search) (v w : st.State) (b : ℕ) (o : Outcome) → o ≡ outcome_of (status_in s')
     → judged m (table_of voices rows s) (solve b) ≡ Judgement.passes → Runs st m b (table_of voices rows s) v (table_of voices rows s') w
-    → Does st m (table_of voices rows s) v (solve b) (outcome_answer o (result (place_in s'))) (table_of voices rows s') w
+    → Does st m (table_of voices rows s) v (solve b) (outcome_answer o (result (status_in s'))) (table_of voices rows s') w
 solves_by st m voices rows s s' v w b o e f r =
-    let a : outcome_answer o (result (place_in s')) ≡ place_answer (place_in s') = ap (λ (x : Outcome). outcome_answer x (result (place_in s'))) e ∙ outcome_says (place_in s') in
+    let a : outcome_answer o (result (status_in s')) ≡ status_answer (status_in s') = ap (λ (x : Outcome). outcome_answer x (result (status_in s'))) e ∙ outcome_says (status_in s') in
     subst (λ (x : Answer). Does st m (table_of voices rows s) v (solve b) x (table_of voices rows s') w) (sym a)
     (Does.solves b (table_of voices rows s') w r.lost f r.solved)
 
@@ -128,31 +128,31 @@ opens_within st {m} r =
 
 -- ---- what was found
 
-stopped_not : (p : Place) → out.Stopped ≡ outcome_of p → is_found p ≡ false
+stopped_not : (p : Status) → out.Stopped ≡ outcome_of p → is_found p ≡ false
 stopped_not fresh e = refl
 stopped_not (going l ls) e = refl
 stopped_not (solved p) e = cc
 stopped_not unsolvable e = refl
 
-none_not : (p : Place) → out.None ≡ outcome_of p → is_found p ≡ false
+none_not : (p : Status) → out.None ≡ outcome_of p → is_found p ≡ false
 none_not fresh e = refl
 none_not (going l ls) e = refl
 none_not (solved p) e = cc
 none_not unsolvable e = refl
 
-pub not_found : (o : Outcome) (p : Place) → (o ≡ out.Stopped) ⊎ (o ≡ out.None) → o ≡ outcome_of p → is_found p ≡ false
+pub not_found : (o : Outcome) (p : Status) → (o ≡ out.Stopped) ⊎ (o ≡ out.None) → o ≡ outcome_of p → is_found p ≡ false
 not_found o p (inl e) h = stopped_not p (sym e ∙ h)
 not_found o p (inr e) h = none_not p (sym e ∙ h)
 
-pub found_place : (e : End) (w : List ℕ) (ls : List Level) → out.Found ≡ outcome_of (place_of e w ls) → place_of e w ls ≡ solved (values w)
-found_place Fresh w [] h = cc
-found_place Found w [] h = refl
-found_place Exhausted w [] h = cc
-found_place Fresh w (l ∷ ls) h = cc
-found_place Found w (l ∷ ls) h = cc
-found_place Exhausted w (l ∷ ls) h = cc
+pub found_status : (e : End) (w : List ℕ) (ls : List Level) → out.Found ≡ outcome_of (status_of e w ls) → status_of e w ls ≡ solved (values w)
+found_status Fresh w [] h = cc
+found_status Found w [] h = refl
+found_status Exhausted w [] h = cc
+found_status Fresh w (l ∷ ls) h = cc
+found_status Found w (l ∷ ls) h = cc
+found_status Exhausted w (l ∷ ls) h = cc
 
-pub reads_by : (st : Behaviour) (m : Meaning) (voices : List ℕ) (rows : List RowData) (s : Search) (v : st.State) (sets buffer after : List ℕ) → place_in s ≡ solved (values sets)
+pub reads_by : (st : Behaviour) (m : Meaning) (voices : List ℕ) (rows : List RowData) (s : Search) (v : st.State) (sets buffer after : List ℕ) → status_in s ≡ solved (values sets)
     → after ≡ values sets ++ drop (length sets) buffer → judged m (table_of voices rows s) (read buffer) ≡ Judgement.passes
     → Does st m (table_of voices rows s) v (read buffer) (Answer.wrote (length sets) after) (table_of voices rows s) v
 reads_by st m voices rows s v sets buffer after e f g =

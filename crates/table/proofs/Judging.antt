@@ -6,7 +6,7 @@ use Rattle.sets.specs.Sets.{least}
 use Rattle.sets.specs.Placings.{values}
 use Rattle.rows.specs.Rows.{Meaning}
 use Rattle.rows.specs.declared.limits.TheConstants.{MOST_VOICES, MOST_BUDGET, MOST_OPENED}
-use Rattle.search.specs.Search.{Place}
+use Rattle.search.specs.Search.{Status}
 use Rattle.rows.specs.Reasons.{judge}
 use Rattle.search.specs.Calls.{TableData, judged, over, is_found, result}
 use Rattle.search.specs.Calls.Call.{declare, solve, read}
@@ -36,7 +36,7 @@ voice_fits m t s e h =
 -- ---- Solve
 
 spent : TableData → ℕ → Bool
-spent t b = not (over t.place) && ltb MOST_OPENED (t.opened + b)
+spent t b = not (over t.status) && ltb MOST_OPENED (t.opened + b)
 
 pub budget_range : (m : Meaning) (t : TableData) (b : ℕ) → (b ≡ 0) ⊎ ((b ≡ 0 → ⊥) × (MOST_BUDGET < b)) → judged m t (solve b) ≡ refused_by 13
 unfolding spent
@@ -47,34 +47,34 @@ in_range : (m : Meaning) (t : TableData) (b : ℕ) → (b ≡ 0 → ⊥) → b �
 unfolding spent
 in_range m t b n h = judge_next 13 (eqb b 0 || ltb MOST_BUDGET b) ((14, spent t b) ∷ []) (or_from (eqb b 0) (ltb MOST_BUDGET b) (ne_eqb b 0 n) (le-ltb MOST_BUDGET b h))
 
-pub over_passes : (m : Meaning) (t : TableData) (b : ℕ) → (b ≡ 0 → ⊥) → b ≤ MOST_BUDGET → over t.place ≡ true → judged m t (solve b) ≡ passes
+pub over_passes : (m : Meaning) (t : TableData) (b : ℕ) → (b ≡ 0 → ⊥) → b ≤ MOST_BUDGET → over t.status ≡ true → judged m t (solve b) ≡ passes
 unfolding spent
-over_passes m t b n h e = in_range m t b n h ∙ judge_next 14 (spent t b) [] (and_left (not (over t.place)) (ltb MOST_OPENED (t.opened + b)) (not_from_true (over t.place) e))
+over_passes m t b n h e = in_range m t b n h ∙ judge_next 14 (spent t b) [] (and_left (not (over t.status)) (ltb MOST_OPENED (t.opened + b)) (not_from_true (over t.status) e))
 
-pub nodes_spent : (m : Meaning) (t : TableData) (b : ℕ) → (b ≡ 0 → ⊥) → b ≤ MOST_BUDGET → over t.place ≡ false → MOST_OPENED < t.opened + b → judged m t (solve b) ≡ refused_by 14
+pub nodes_spent : (m : Meaning) (t : TableData) (b : ℕ) → (b ≡ 0 → ⊥) → b ≤ MOST_BUDGET → over t.status ≡ false → MOST_OPENED < t.opened + b → judged m t (solve b) ≡ refused_by 14
 unfolding spent
 nodes_spent m t b n h e k =
     in_range m t b n h
-    ∙ judge_here 14 (spent t b) [] (and_from (not (over t.place)) (ltb MOST_OPENED (t.opened + b)) (not_from_false (over t.place) e) (lt-ltb MOST_OPENED (t.opened + b) k))
+    ∙ judge_here 14 (spent t b) [] (and_from (not (over t.status)) (ltb MOST_OPENED (t.opened + b)) (not_from_false (over t.status) e) (lt-ltb MOST_OPENED (t.opened + b) k))
 
 pub budget_fits : (m : Meaning) (t : TableData) (b : ℕ) → (b ≡ 0 → ⊥) → b ≤ MOST_BUDGET → t.opened + b ≤ MOST_OPENED → judged m t (solve b) ≡ passes
 unfolding spent
-budget_fits m t b n h k = in_range m t b n h ∙ judge_next 14 (spent t b) [] (and_right (not (over t.place)) (ltb MOST_OPENED (t.opened + b)) (le-ltb MOST_OPENED (t.opened + b) k))
+budget_fits m t b n h k = in_range m t b n h ∙ judge_next 14 (spent t b) [] (and_right (not (over t.status)) (ltb MOST_OPENED (t.opened + b)) (le-ltb MOST_OPENED (t.opened + b) k))
 
 -- ---- Read
 
-pub nothing_found : (m : Meaning) (t : TableData) (buffer : List ℕ) → is_found t.place ≡ false → judged m t (read buffer) ≡ refused_by 15
+pub nothing_found : (m : Meaning) (t : TableData) (buffer : List ℕ) → is_found t.status ≡ false → judged m t (read buffer) ≡ refused_by 15
 nothing_found m t buffer e =
-    judge_here 15 (not (is_found t.place)) ((16, ltb (length buffer) (length (result t.place))) ∷ []) (not_from_false (is_found t.place) e)
+    judge_here 15 (not (is_found t.status)) ((16, ltb (length buffer) (length (result t.status))) ∷ []) (not_from_false (is_found t.status) e)
 
-when_found : (m : Meaning) (t : TableData) (sets buffer : List ℕ) (b : Bool) → t.place ≡ Place.solved (values sets) → ltb (length buffer) (length sets) ≡ b → judged m t (read buffer) ≡ judge ((16, b) ∷ [])
+when_found : (m : Meaning) (t : TableData) (sets buffer : List ℕ) (b : Bool) → t.status ≡ Status.solved (values sets) → ltb (length buffer) (length sets) ≡ b → judged m t (read buffer) ≡ judge ((16, b) ∷ [])
 when_found m t sets buffer b e f =
-    ap (λ (p : Place). judge ((15, not (is_found p)) ∷ ((16, ltb (length buffer) (length (result p))) ∷ []))) e
+    ap (λ (p : Status). judge ((15, not (is_found p)) ∷ ((16, ltb (length buffer) (length (result p))) ∷ []))) e
     ∙ ap (λ (n : ℕ). judge ((16, ltb (length buffer) n) ∷ [])) (length-map sets least)
     ∙ ap (λ (x : Bool). judge ((16, x) ∷ [])) f
 
-pub short_buffer : (m : Meaning) (t : TableData) (sets buffer : List ℕ) → t.place ≡ Place.solved (values sets) → length buffer < length sets → judged m t (read buffer) ≡ refused_by 16
+pub short_buffer : (m : Meaning) (t : TableData) (sets buffer : List ℕ) → t.status ≡ Status.solved (values sets) → length buffer < length sets → judged m t (read buffer) ≡ refused_by 16
 short_buffer m t sets buffer e h = when_found m t sets buffer true e (lt-ltb (length buffer) (length sets) h)
 
-pub buffer_fits : (m : Meaning) (t : TableData) (sets buffer : List ℕ) → t.place ≡ Place.solved (values sets) → length sets ≤ length buffer → judged m t (read buffer) ≡ passes
+pub buffer_fits : (m : Meaning) (t : TableData) (sets buffer : List ℕ) → t.status ≡ Status.solved (values sets) → length sets ≤ length buffer → judged m t (read buffer) ≡ passes
 buffer_fits m t sets buffer e h = when_found m t sets buffer false e (le-ltb (length buffer) (length sets) h)

@@ -3,14 +3,14 @@ use Rattle.std.proofs.Common.{◌≡◌, ℕ, ◌+◌, ◌≤◌, true, false, �
 use Rattle.sets.specs.Placings.{values}
 use Rattle.rows.specs.Rows.{RowData, Meaning}
 use Rattle.stores.specs.Behaviours.{Behaviour}
-use Rattle.search.specs.Search.{Level, Place, Opens, Steps, taken, node, below}
+use Rattle.search.specs.Search.{Level, Status, Opens, Steps, taken, node, below}
 use Rattle.search.specs.Search.Node.{solution, branch}
 use Rattle.search.specs.Propagation.{propagated}
 use Rattle.search.specs.Calls.{TableData, over, OpensNodes}
 use Rattle.table.specs.declared.engine.level.End.{End}
 use Rattle.table.specs.declared.engine.level.End.TheVariants.{Fresh, Found, Exhausted}
 use Rattle.table.specs.Levels.{Backed, next_sets, next_levels}
-use Rattle.table.specs.Places.{place_of}
+use Rattle.table.specs.Statuses.{status_of}
 use Rattle.table.specs.Searches.{Ran, Runs}
 use Rattle.table.specs.Nodes.{node_of}
 use Rattle.table.specs.declared.engine.node.NodeClass as code
@@ -20,13 +20,13 @@ use Rattle.table.proofs.Openings.{Opened, failed, opened_failed, opened_solution
 -- ---- the node that is opened next
 
 -- one node is opened, the root or the next child of the newest level; n levels are exhausted
-pub record Advanced (st : Behaviour) (m : Meaning) (voices : List ℕ) (rows : List RowData) (p : Place) (v : st.State) (q : Place) (w : st.State) (n : ℕ) : Type 0 where
+pub record Advanced (st : Behaviour) (m : Meaning) (voices : List ℕ) (rows : List RowData) (p : Status) (v : st.State) (q : Status) (w : st.State) (n : ℕ) : Type 0 where
   pub lost : ℕ
   pub steps : Steps st m voices rows p v q w n lost
 
 module _ (st : Behaviour) where
-  pub next_step : (m : Meaning) (voices : List ℕ) (rows : List RowData) (s : List ℕ) (ls : List Level) (e : End) (y : List ℕ) (v x : st.State) (q : Place) (i : ℕ)
-      → over (place_of e y ls) ≡ false → s ≡ next_sets voices ls → Opened st m rows s (next_levels ls) v q x i → Advanced st m voices rows (place_of e y ls) v q x i
+  pub next_step : (m : Meaning) (voices : List ℕ) (rows : List RowData) (s : List ℕ) (ls : List Level) (e : End) (y : List ℕ) (v x : st.State) (q : Status) (i : ℕ)
+      → over (status_of e y ls) ≡ false → s ≡ next_sets voices ls → Opened st m rows s (next_levels ls) v q x i → Advanced st m voices rows (status_of e y ls) v q x i
   next_step m voices rows s [] Fresh y v x q i h f o =
       record { lost = o.lost; steps = Steps.opens_root v x q i o.lost (subst (λ t. Opens st m rows t [] v q x i o.lost) f o.opens) }
   next_step m voices rows s [] Found y v x q i h f o = cc
@@ -36,10 +36,10 @@ module _ (st : Behaviour) where
 
   -- ---- runs
 
-  abbrev pub table : List ℕ → List RowData → Place → ℕ → ℕ → TableData
-  table voices rows p o e = record { voices = voices; rows = rows; place = p; opened = o; exhausted = e }
+  abbrev pub table : List ℕ → List RowData → Status → ℕ → ℕ → TableData
+  table voices rows p o e = record { voices = voices; rows = rows; status = p; opened = o; exhausted = e }
 
-  pub ran_one : (m : Meaning) (voices : List ℕ) (rows : List RowData) (p q : Place) (o e o' e' : ℕ) (v w : st.State) (n : ℕ) → o' ≡ o + 1 → e' ≡ e + n → Advanced st m voices rows p v q w n
+  pub ran_one : (m : Meaning) (voices : List ℕ) (rows : List RowData) (p q : Status) (o e o' e' : ℕ) (v w : st.State) (n : ℕ) → o' ≡ o + 1 → e' ≡ e + n → Advanced st m voices rows p v q w n
       → Ran st m 1 (table voices rows p o e) v (table voices rows q o' e') w
   ran_one m voices rows p q o e o' e' v w n c d a =
       subst (λ (x : ℕ). Ran st m 1 (table voices rows p o e) v (table voices rows q x e') w) (sym c)
@@ -54,31 +54,31 @@ module _ (st : Behaviour) where
 
   -- The search with the levels ls enters the sets s, which are propagated to t below the levels above; it then has the sets y.
   module _ (m : Meaning) (voices : List ℕ) (rows : List RowData) (e : End) (x s t y : List ℕ) (ls above : List Level) (o n : ℕ) (v : st.State) (k : ℕ)
-      (going : over (place_of e x ls) ≡ false) (entered : s ≡ next_sets voices ls) (narrowed : t ≡ propagated m rows s) (fixed : k ≡ below above) (under : above ≡ next_levels ls) where
-    steps_by : (q : Place) (w : st.State) (i : ℕ) → Opened st m rows s (next_levels ls) v q w i
-        → Ran st m 1 (table voices rows (place_of e x ls) o n) v (table voices rows q (o + 1) (n + i)) w
+      (going : over (status_of e x ls) ≡ false) (entered : s ≡ next_sets voices ls) (narrowed : t ≡ propagated m rows s) (fixed : k ≡ below above) (under : above ≡ next_levels ls) where
+    steps_by : (q : Status) (w : st.State) (i : ℕ) → Opened st m rows s (next_levels ls) v q w i
+        → Ran st m 1 (table voices rows (status_of e x ls) o n) v (table voices rows q (o + 1) (n + i)) w
     steps_by q w i h =
-        ran_one m voices rows (place_of e x ls) q o n (o + 1) (n + i) v w i refl refl (next_step m voices rows s ls e x v w q i going entered h)
+        ran_one m voices rows (status_of e x ls) q o n (o + 1) (n + i) v w i refl refl (next_step m voices rows s ls e x v w q i going entered h)
 
     pub step_failed : (r : code.NodeClass) (rest : List Level) (w : st.State) (i : ℕ) → (r ≡ Dead) ⊎ (r ≡ Hit) → node m rows (st.view v) k t ≡ node_of r t
         → Backed st m rows above v rest w i
-        → Ran st m 1 (table voices rows (place_of e x ls) o n) v (table voices rows (place_of Exhausted y rest) (o + 1) (n + i)) w
+        → Ran st m 1 (table voices rows (status_of e x ls) o n) v (table voices rows (status_of Exhausted y rest) (o + 1) (n + i)) w
     step_failed r rest w i f h b =
-        steps_by (place_of Exhausted y rest) w i
+        steps_by (status_of Exhausted y rest) w i
         (opened_failed st m rows s t ls v k (node_of r t) above w rest y i (failed r t f) narrowed (fixed ∙ ap below under) h under b)
 
     pub step_found : (rest : List Level) → node m rows (st.view v) k t ≡ solution (values t) → rest ≡ [] → y ≡ t
-        → Ran st m 1 (table voices rows (place_of e x ls) o n) v (table voices rows (place_of Found y rest) (o + 1) n) v
+        → Ran st m 1 (table voices rows (status_of e x ls) o n) v (table voices rows (status_of Found y rest) (o + 1) n) v
     step_found rest h q z =
-        subst (λ (j : ℕ). Ran st m 1 (table voices rows (place_of e x ls) o n) v (table voices rows (place_of Found y rest) (o + 1) j) v) (omega arith)
-        (steps_by (place_of Found y rest) v 0 (opened_solution st m rows s t ls v k rest y narrowed (fixed ∙ ap below under) h q z))
+        subst (λ (j : ℕ). Ran st m 1 (table voices rows (status_of e x ls) o n) v (table voices rows (status_of Found y rest) (o + 1) j) v) (omega arith)
+        (steps_by (status_of Found y rest) v 0 (opened_solution st m rows s t ls v k rest y narrowed (fixed ∙ ap below under) h q z))
 
     pub step_branched : (j : ℕ) (rest : List Level) (z : List ℕ) → node m rows (st.view v) k t ≡ branch (record { sets = t; voice = j; left = get_or t j 0 })
         → z ≡ t → rest ≡ record { sets = z; voice = j; left = get_or z j 0 } ∷ above
-        → Ran st m 1 (table voices rows (place_of e x ls) o n) v (table voices rows (place_of e y rest) (o + 1) n) v
+        → Ran st m 1 (table voices rows (status_of e x ls) o n) v (table voices rows (status_of e y rest) (o + 1) n) v
     step_branched j rest z h q p =
-        subst (λ (i : ℕ). Ran st m 1 (table voices rows (place_of e x ls) o n) v (table voices rows (place_of e y rest) (o + 1) i) v) (omega arith)
-        (steps_by (place_of e y rest) v 0 (opened_branch st m rows s t ls v k (record { sets = t; voice = j; left = get_or t j 0 }) rest e y narrowed (fixed ∙ ap below under) h
+        subst (λ (i : ℕ). Ran st m 1 (table voices rows (status_of e x ls) o n) v (table voices rows (status_of e y rest) (o + 1) i) v) (omega arith)
+        (steps_by (status_of e y rest) v 0 (opened_branch st m rows s t ls v k (record { sets = t; voice = j; left = get_or t j 0 }) rest e y narrowed (fixed ∙ ap below under) h
         (p ∙ ap₂ (λ (a : List ℕ) (b : List Level). record { sets = a; voice = j; left = get_or a j 0 } ∷ b) q under)))
 
   recount : {m : Meaning} {b c : ℕ} {t : TableData} {v : st.State} {u : TableData} {w : st.State} {i j : ℕ} → b ≡ c → i ≡ j → OpensNodes st m b t v u w i
@@ -99,5 +99,5 @@ module _ (st : Behaviour) where
   ran_then m b c d t v u w x y e r q = record { lost = r.lost + q.lost; goes = recount (sym e) refl (goes_then r.goes q.goes) }
 
   pub runs_by : (m : Meaning) (budget count : ℕ) (t : TableData) (v : st.State) (u : TableData) (w : st.State) → count ≤ budget → Ran st m count t v u w
-      → (over u.place ≡ true) ⊎ (count ≡ budget) → Runs st m budget t v u w
+      → (over u.status ≡ true) ⊎ (count ≡ budget) → Runs st m budget t v u w
   runs_by m budget count t v u w h r e = record { lost = r.lost; solved = record { count = count; inside = h; goes = r.goes; ends = e } }

@@ -4,8 +4,8 @@ use Rattle.std.specs.Prelude.{ℕ, zero, suc, ◌*◌, ◌<◌, ◌≤◌, Bool,
 use Rattle.rows.specs.Rows.{RowData, Meaning}
 use Rattle.stores.specs.Behaviours.{Behaviour}
 use Rattle.stores.specs.declared.store.Stored.{Stored}
-use Rattle.search.specs.Search.{Level, Place, BacksUp, child, taken}
-use Rattle.search.specs.Search.Place.{going, unsolvable}
+use Rattle.search.specs.Search.{Level, Status, BacksUp, child, taken}
+use Rattle.search.specs.Search.Status.{going, unsolvable}
 use Rattle.table.specs.declared.engine.level.LevelRecord.{LevelRecord}
 
 -- what is read past the last record
@@ -67,10 +67,10 @@ abbrev pub next_levels : List Level → List Level
 next_levels [] = []
 next_levels (l ∷ ls) = taken l ∷ ls
 
--- where a search stands that has backed up to these levels
-abbrev pub place_backed_up : List Level → Place
-place_backed_up [] = unsolvable
-place_backed_up (l ∷ ls) = going l ls
+-- the status of a search that has backed up to these levels
+abbrev pub status_backed_up : List Level → Status
+status_backed_up [] = unsolvable
+status_backed_up (l ∷ ls) = going l ls
 
 -- the state that a store may be in once the key was given to it, whatever it answered
 abbrev pub KeyGiven : (b : Behaviour) → b.State → List ℕ → b.State → Type 0
@@ -80,4 +80,4 @@ KeyGiven b s k t = (r : Stored) × b.keeps s k r t
 pub record Backed (b : Behaviour) (m : Meaning) (rows : List RowData) (ls : List Level)
     (s : b.State) (rest : List Level) (t : b.State) (n : ℕ) : Type 0 where
   pub lost : ℕ
-  pub backs : BacksUp b m rows ls s (place_backed_up rest) t n lost
+  pub backs : BacksUp b m rows ls s (status_backed_up rest) t n lost

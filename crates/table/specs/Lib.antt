@@ -1,7 +1,7 @@
 pub mod Levels
 pub mod Stacks
 pub mod Nodes
-pub mod Places
+pub mod Statuses
 pub mod Outcomes
 pub mod Searches
 pub mod Refusals

@@ -2,10 +2,10 @@
 use Rattle.std.specs.Prelude.{◌≡◌, ℕ, List, [], vec_items, vec_len}
 use Rattle.rows.specs.Rows.{RowData, Meaning}
 use Rattle.stores.specs.Behaviours.{Behaviour}
-use Rattle.search.specs.Search.{Level, Place}
-use Rattle.search.specs.Search.Place.{fresh, going, solved, unsolvable}
+use Rattle.search.specs.Search.{Level, Status}
+use Rattle.search.specs.Search.Status.{fresh, going, solved, unsolvable}
 use Rattle.search.specs.Calls.{TableData, OpensNodes, Solved}
-use Rattle.table.specs.Places.{place_of}
+use Rattle.table.specs.Statuses.{status_of}
 use Rattle.table.specs.Stacks.{levels_in}
 use Rattle.table.specs.declared.engine.state.Search.{Search}
 use Rattle.table.specs.declared.engine.level.End.TheVariants.{Fresh}
@@ -23,15 +23,15 @@ node_sets s = vec_items s.sets
 abbrev pub levels_of : Search → List Level
 levels_of s = levels_in s.levels
 
-abbrev pub place_in : Search → Place
-place_in s = place_of s.end (vec_items s.sets) (levels_of s)
+abbrev pub status_in : Search → Status
+status_in s = status_of s.end (vec_items s.sets) (levels_of s)
 
 -- the table with these voices and rows that it searches
 abbrev pub table_of : List ℕ → List RowData → Search → TableData
 table_of voices rows s = record {
   voices = voices;
   rows = rows;
-  place = place_in s;
+  status = status_in s;
   opened = s.opened;
   exhausted = s.exhausted;
 }
@@ -45,7 +45,7 @@ pub record Begun (n : ℕ) (s : Search) : Type 0 where
   pub none_exhausted : s.exhausted ≡ 0
 
 -- what it has come to
-abbrev pub outcome_of : Place → Outcome
+abbrev pub outcome_of : Status → Outcome
 outcome_of fresh = Stopped
 outcome_of (going l ls) = Stopped
 outcome_of (solved p) = Found

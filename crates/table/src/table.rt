@@ -188,7 +188,7 @@ impl<B: Bank, S: Store> Table<B, S> {
 
     // Whether the search is over.
     fn is_over(&self) -> bool
-        ensures { result ≡ over (model self.now).place }
+        ensures { result ≡ over (model self.now).status }
     {
         self.search.is_over()
     }
@@ -209,7 +209,7 @@ impl<B: Bank, S: Store> Table<B, S> {
 
     /// What the search has come to so far; it opens no node.
     pub fn outcome(&self) -> Outcome
-        ensures { result ≡ outcome_of (model self.now).place }
+        ensures { result ≡ outcome_of (model self.now).status }
     {
         self.search.outcome()
     }

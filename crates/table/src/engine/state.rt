@@ -26,7 +26,7 @@ pub(crate) struct Search {
     sets: Vec<ValueSet>,
     keys: KeyBuffer,
     levels: Levels,
-    // where the search stands if there is no level
+    // the status of the search if there is no level
     end: End,
     // nodes opened, and nodes exhausted
     opened: u64,
@@ -42,7 +42,7 @@ pub(crate) struct Search {
 
 // Each method says that there are as many voices as before, which no ghost field can say.
 impl Search {
-    ghost use Rattle.table.specs.Searches.{Begun, voice_count, node_sets, place_in, outcome_of, table_of, Ran, Runs};
+    ghost use Rattle.table.specs.Searches.{Begun, voice_count, node_sets, status_in, outcome_of, table_of, Ran, Runs};
 
     // A search with no voices that has not begun.
     pub(crate) fn new(heap: Global) -> Result<Search, AllocError>
@@ -76,7 +76,7 @@ impl Search {
 
     // What the search has come to.
     pub(crate) fn outcome(&self) -> Outcome
-        ensures { result ≡ outcome_of (place_in self.now) }
+        ensures { result ≡ outcome_of (status_in self.now) }
     {
         if !self.levels.is_empty() {
             return Outcome::Stopped;
@@ -90,7 +90,7 @@ impl Search {
 
     // Whether the search is over.
     pub(crate) fn is_over(&self) -> bool
-        ensures { result ≡ over (place_in self.now) }
+        ensures { result ≡ over (status_in self.now) }
     {
         self.levels.is_empty() && matches!(self.end, End::Found | End::Exhausted)
     }
@@ -118,7 +118,7 @@ impl Search {
 
     // Opens the root, or the next child of the newest level.
     fn step<B: Bank, S: Store>(&mut self, rows: &[Row], voices: &[ValueSet], store: &mut S)
-        requires open { over (place_in self.old) ≡ false }
+        requires open { over (status_in self.old) ≡ false }
         requires voices { length voices.now ≡ voice_count self.old }
         requires rows { length rows.now ≤ MOST_ROWS }
         requires few { self.old.opened < MOST_OPENED }

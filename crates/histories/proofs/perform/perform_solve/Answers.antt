@@ -4,7 +4,7 @@ use Rattle.search.specs.Calls.{Answer, Does}
 use Rattle.search.specs.Calls.Call.{solve}
 use Rattle.table.specs.Shown.{model, store_in, rows_in}
 use Rattle.table.specs.CallLaws.{ExtendsHistories}
-use Rattle.histories.proofs.Finding.{place_found, read_wrote, wrote_ok, values_left}
+use Rattle.histories.proofs.Finding.{status_found, read_wrote, wrote_ok, values_left}
 use Rattle.histories.proofs.perform.perform_solve.Goals as goal
 
 pub unwrap-count-requires : goal.unwrap-count-requires
@@ -17,7 +17,7 @@ unwrap-count-requires g c =
     let w = store_in t in
     let s = t.search in
     let b = c.deref_mut.result.now in
-    let e = place_found st m {t = model before} {v = v} {w = w} {b = c.args.budget} (vec_items t.voices) (rows_in t) s c.in-Ok-Found.field-0 c.in-Ok-Found.field-0-is c.in-Ok-Found.ensures.does in
+    let e = status_found st m {t = model before} {v = v} {w = w} {b = c.args.budget} (vec_items t.voices) (rows_in t) s c.in-Ok-Found.field-0 c.in-Ok-Found.field-0-is c.in-Ok-Found.ensures.does in
     let h : length (vec_items s.sets) ≤ length b = omega (arith, t.few, t.searched, s.sets.ok, c.deref_mut.ensures.len, c.in_ok-values.ensures.len) in
     wrote_ok c.read.result c.read.new.out _ _ (read_wrote st m {v = w} (vec_items t.voices) (rows_in t) s b c.read.new.out c.read.result e h c.read.ensures.does)
 
@@ -33,7 +33,7 @@ returns-in-Ok-Found g c =
     let b = c.deref_mut.result.now in
     let out = c.read.new.out in
     let k = c.unwrap-count.result in
-    let e = place_found st m {t = model before} {v = v} {w = w} {b = c.args.budget} (vec_items t.voices) (rows_in t) s c.in-Ok-Found.field-0 c.in-Ok-Found.field-0-is c.in-Ok-Found.ensures.does in
+    let e = status_found st m {t = model before} {v = v} {w = w} {b = c.args.budget} (vec_items t.voices) (rows_in t) s c.in-Ok-Found.field-0 c.in-Ok-Found.field-0-is c.in-Ok-Found.ensures.does in
     let h : length (vec_items s.sets) ≤ length b = omega (arith, t.few, t.searched, s.sets.ok, c.deref_mut.ensures.len, c.in_ok-values.ensures.len) in
     let r = read_wrote st m {v = w} (vec_items t.voices) (rows_in t) s b out c.read.result e h c.read.ensures.does in
     let f : vec_items c.truncate.new.self ≡ take k out =

@@ -1,0 +1,18 @@
+-- The status of a search, as memory holds it.
+use Rattle.std.specs.Prelude.{ℕ, List, [], ◌∷◌}
+use Rattle.sets.specs.Placings.{values}
+use Rattle.search.specs.Search.{Level, Status}
+use Rattle.search.specs.Search.Status.{fresh, going, solved, unsolvable}
+use Rattle.table.specs.declared.engine.level.End.{End}
+use Rattle.table.specs.declared.engine.level.End.TheVariants.{Fresh, Found, Exhausted}
+
+-- with no level; what was found are the values of the sets s
+abbrev pub end_status : End → List ℕ → Status
+end_status Fresh s = fresh
+end_status Found s = solved (values s)
+end_status Exhausted s = unsolvable
+
+-- with these levels
+abbrev pub status_of : End → List ℕ → List Level → Status
+status_of e s [] = end_status e s
+status_of e s (l ∷ ls) = going l ls
