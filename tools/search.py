@@ -316,6 +316,17 @@ def harbour():
         print("placing")
         for n, v in zip(NAMES, r):
             print(f"  {n} {v}")
+    built_row()
+
+def built_row():
+    """Two voices {1,3}, and the bytes of a row that says that they differ: the row that is built with a ticket."""
+    print("a row built with a ticket")
+    row = read_row(bytes.fromhex("41 02 4D 00 00 00 4D 01 00 00"), 2)
+    print(f"refused {row}" if isinstance(row, int) else "one row posted, one scrapped")
+    r = Search([{1, 3}, {1, 3}], [row], 0).solve(10)
+    print("not found" if isinstance(r, str) else "found")
+    for i, v in enumerate(r):
+        print(f"{i} {v}")
 
 if __name__ == "__main__":
     {"sheet": sheet, "harbour": harbour, "histories": histories}[sys.argv[1]](*sys.argv[2:])

@@ -1,6 +1,8 @@
-// A built-in title: its voices narrowed by its rows, and then a placing searched for, a few nodes at a time.
+// A built-in title: its voices narrowed by its rows, and then a placing searched for, a few nodes at a time. At the end
+// a small table, whose row is built with a ticket.
 #![tactic(auto)]
 
+use built_rows::solve_built_rows;
 use kinds::FourKinds;
 use narrow::narrow_title;
 use rows::bank::Bank;
@@ -9,6 +11,7 @@ use rows::row::Row;
 use solve::solve_title;
 use stores::shelf::Shelf;
 
+mod built_rows;
 mod narrow;
 mod show;
 mod solve;
@@ -35,5 +38,7 @@ fn main(rt: HostRuntime) -> anyhow::Result<()> {
     narrow_title(&rt, &rows)?;
     let mut words = vec![in rt.alloc(); 0u64; SHELF_WORDS]?;
     solve_title(&rt, Shelf::new(&mut words), &rows)?;
+    println!(rt; "a row built with a ticket")?;
+    solve_built_rows(&rt)?;
     Ok(())
 }

@@ -1,6 +1,4 @@
 // A row built with a ticket and posted, another begun and scrapped, and the table solved.
-#![tactic(auto)]
-
 use kinds::all_different::AllDifferent;
 use rows::bank::Alone;
 use sets::ValueSet;
@@ -43,7 +41,8 @@ fn print_placing(rt: &HostRuntime, table: &mut Table<OneKind, Bare>) -> io::Resu
     Ok(())
 }
 
-fn main(rt: HostRuntime) -> anyhow::Result<()> {
+// Makes a table of two voices, posts a row built with a ticket, and prints the placing.
+pub(crate) fn solve_built_rows(rt: &HostRuntime) -> anyhow::Result<()> {
     let mut table: Table<OneKind, Bare> = Table::make(rt.alloc(), Bare)?;
     let _ = table.declare(OPENING);
     let _ = table.declare(OPENING);
@@ -52,6 +51,6 @@ fn main(rt: HostRuntime) -> anyhow::Result<()> {
         Ok(()) => println!(rt; "one row posted, one scrapped")?,
         Err(refusal) => println!(rt; "refused {}", refusal.number())?,
     }
-    print_placing(&rt, &mut table)?;
+    print_placing(rt, &mut table)?;
     Ok(())
 }
