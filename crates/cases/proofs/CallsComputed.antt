@@ -18,7 +18,7 @@ use Rattle.search.specs.Histories.{calls_in}
 use Rattle.search.proofs.OutcomeFacts.{Played, replay}
 use Rattle.cases.specs.CaseRows.{differing}
 use Rattle.cases.specs.Tables.{CaseStore}
-use Rattle.cases.specs.Tables.CaseStore.{shelf_of, bare_case}
+use Rattle.cases.specs.Tables.CaseStore.{shelf_of, bare_store}
 use Rattle.cases.specs.SearchCases.{SearchCase, SearchHolds, SearchHoldsOver, SearchCaseHolds}
 use Rattle.cases.specs.Searches.{searches, SearchesHold}
 use Rattle.cases.specs.Refusals.{CallCase, CallHolds, refusals, RefusalsHold, limit_histories, LimitsReached}
@@ -57,11 +57,11 @@ module _ (store : Behaviour) (d : Decided store) (g : store.State) where
 
 abbrev holds_over : CaseStore → SearchCase → Bool
 holds_over (shelf_of words) c = reached_by shelf shelf_decided (record { held = []; room = words }) c
-holds_over bare_case c = reached_by stores.bare bare_decided tt c
+holds_over bare_store c = reached_by stores.bare bare_decided tt c
 
 holds_over_so : (s : CaseStore) (c : SearchCase) → holds_over s c ≡ true → SearchHoldsOver s c
 holds_over_so (shelf_of words) c e = holds_by_so shelf shelf_decided (record { held = []; room = words }) c e
-holds_over_so bare_case c e = holds_by_so stores.bare bare_decided tt c e
+holds_over_so bare_store c e = holds_by_so stores.bare bare_decided tt c e
 
 abbrev leads : SearchCase → Bool
 leads c = holds_over c.store c

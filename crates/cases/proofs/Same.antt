@@ -12,7 +12,7 @@ use Rattle.search.specs.Search.Status.{fresh, going}
 use Rattle.rows.specs.Reasons.{Judgement}
 use Rattle.search.specs.Calls.{TableData, Call, Answer}
 use Rattle.search.specs.Calls.Answer.{done, refused, found, none, stopped, wrote}
-use Rattle.rows.specs.Reasons.Judgement.{passes, refused_by}
+use Rattle.rows.specs.Reasons.Judgement.{passes, refused_under}
 use Rattle.search.specs.Histories.{calls_in}
 
 -- ---- lists
@@ -33,12 +33,12 @@ same_list_is test so xs ys e = absurd (both_ways false refl e)
 
 abbrev pub same_judgement : Judgement → Judgement → Bool
 same_judgement passes passes = true
-same_judgement (refused_by n) (refused_by k) = eqb n k
+same_judgement (refused_under n) (refused_under k) = eqb n k
 same_judgement x y = false
 
 pub same_judgement_is : (x y : Judgement) → same_judgement x y ≡ true → x ≡ y
 same_judgement_is passes passes e = refl
-same_judgement_is (refused_by n) (refused_by k) e = ap refused_by (eqb-true n k e)
+same_judgement_is (refused_under n) (refused_under k) e = ap refused_under (eqb-true n k e)
 same_judgement_is x y e = absurd (both_ways false refl e)
 
 abbrev pub same_answer : Answer → Answer → Bool
@@ -107,8 +107,8 @@ same_level_is l k e =
 abbrev same_status : Status → Status → Bool
 same_status fresh fresh = true
 same_status (going l ls) (going k ks) = same_level l k && same_list same_level ls ks
-same_status (Status.solved p) (Status.solved q) = same p q
-same_status Status.unsolvable Status.unsolvable = true
+same_status (Status.satisfied p) (Status.satisfied q) = same p q
+same_status Status.unsatisfiable Status.unsatisfiable = true
 same_status x y = false
 
 same_status_is : (x y : Status) → same_status x y ≡ true → x ≡ y
@@ -116,8 +116,8 @@ same_status_is fresh fresh e = refl
 same_status_is (going l ls) (going k ks) e =
     let p = and_parts (same_level l k) (same_list same_level ls ks) e in
     ap₂ going (same_level_is l k p.0) (same_list_is same_level same_level_is ls ks p.1)
-same_status_is (Status.solved p) (Status.solved q) e = ap Status.solved (same_is p q e)
-same_status_is Status.unsolvable Status.unsolvable e = refl
+same_status_is (Status.satisfied p) (Status.satisfied q) e = ap Status.satisfied (same_is p q e)
+same_status_is Status.unsatisfiable Status.unsatisfiable e = refl
 same_status_is x y e = absurd (both_ways false refl e)
 
 -- what is given of a table, and what the search has come to

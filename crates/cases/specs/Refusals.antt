@@ -4,12 +4,12 @@ use Rattle.std.specs.Prelude.{◌≡◌, ℕ, List, [], ◌∷◌, ◌++◌, len
 use Rattle.rows.specs.Rows.{RowData}
 use Rattle.rows.specs.Bytes.{decode, total_bytes}
 use Rattle.search.specs.Search.{Status}
-use Rattle.search.specs.Search.Status.{fresh, going, solved, unsolvable}
+use Rattle.search.specs.Search.Status.{fresh, going, satisfied, unsatisfiable}
 use Rattle.rows.specs.Reasons.{Judgement}
-use Rattle.search.specs.Calls.{TableData, begun, empty, Call, Answer, judged}
+use Rattle.search.specs.Calls.{TableData, fresh_table, empty, Call, Answer, judged}
 use Rattle.search.specs.Calls.Call.{declare, post, solve, read, wipe}
 use Rattle.search.specs.Calls.Answer.{done, refused}
-use Rattle.rows.specs.Reasons.Judgement.{passes, refused_by}
+use Rattle.rows.specs.Reasons.Judgement.{passes, refused_under}
 use Rattle.cases.specs.CaseRows.{differing}
 use Rattle.cases.specs.Tables.{large, first_differ, table_with}
 use Rattle.cases.specs.SearchCases.{SearchCase, calls_over, SearchCaseHolds}
@@ -34,11 +34,11 @@ CallHolds (length_of bs bytes) = length bs ≡ bytes
 
 -- so many voices {1,2}, and no rows
 abbrev pub with_voices : ℕ → TableData
-with_voices n = begun (replicate n 6) []
+with_voices n = fresh_table (replicate n 6) []
 
 -- one voice, and so many rows of 6 bytes
 abbrev pub with_short_rows : ℕ → TableData
-with_short_rows n = begun (6 ∷ []) (replicate n (decode differing (first_differ 1)))
+with_short_rows n = fresh_table (6 ∷ []) (replicate n (decode differing (first_differ 1)))
 
 -- 32 voices; 62 rows of 130 bytes, and so many that say that the first k voices differ
 abbrev pub long_rows : ℕ → ℕ → List RowData
@@ -47,9 +47,9 @@ long_rows n k =
     ++ replicate n (decode differing (first_differ k))
 
 abbrev pub with_long_rows : ℕ → ℕ → TableData
-with_long_rows n k = begun (replicate 32 6) (long_rows n k)
+with_long_rows n k = fresh_table (replicate 32 6) (long_rows n k)
 
--- the table of no voices and no rows, whose search has this status and so many opened nodes
+-- the table of no voices and no rows, whose search has this status and so many nodes opened
 abbrev pub empty_at : Status → ℕ → TableData
 empty_at status opened = table_with [] [] status opened 0
 
@@ -69,19 +69,20 @@ voice_twice = 0x41 ∷ 2 ∷ 0x4D ∷ 0 ∷ 0 ∷ 0 ∷ 0x4D ∷ 0 ∷ 0 ∷ 0 �
 -- ---- histories that lead to the limits
 
 -- so many voices {1,2}
-abbrev pub declared_times : ℕ → List (Call × Answer)
-declared_times n = replicate n (declare 6, done)
+abbrev pub many_declares : ℕ → List (Call × Answer)
+many_declares n = replicate n (declare 6, done)
 
 -- so many rows that say that the first k voices differ
-abbrev pub posted_times : ℕ → ℕ → List (Call × Answer)
-posted_times n k = replicate n (post (first_differ k), done)
+abbrev pub many_posts : ℕ → ℕ → List (Call × Answer)
+many_posts n k = replicate n (post (first_differ k), done)
 
 -- 32 voices and 66 rows, of 8,192 bytes
 abbrev pub full_history : List (Call × Answer)
-full_history = posted_times 1 7 ++ posted_times 3 8 ++ posted_times 62 32 ++ declared_times 32
+full_history = many_posts 1 7 ++ many_posts 3 8 ++ many_posts 62 32 ++ many_declares 32
 
 abbrev pub full_table : TableData
-full_table = begun (replicate 32 6) (long_rows 3 8 ++ (decode differing (first_differ 7) ∷ []))
+full_table =
+    fresh_table (replicate 32 6) (long_rows 3 8 ++ (decode differing (first_differ 7) ∷ []))
 
 -- ---- the cases
 
@@ -90,84 +91,84 @@ refusals =
     -- Declare: the least and the greatest set that is not empty, and the empty set
     judgement_of empty (declare 1) passes
     ∷ judgement_of empty (declare 0xFFFF_FFFF_FFFF_FFFF) passes
-    ∷ judgement_of empty (declare 0) (refused_by 10)
+    ∷ judgement_of empty (declare 0) (refused_under 10)
     -- the 80th voice, and one more
     ∷ judgement_of (with_voices 79) (declare 6) passes
-    ∷ judgement_of (with_voices 80) (declare 6) (refused_by 11)
+    ∷ judgement_of (with_voices 80) (declare 6) (refused_under 11)
     -- an empty set goes before one voice more
-    ∷ judgement_of (with_voices 80) (declare 0) (refused_by 10)
+    ∷ judgement_of (with_voices 80) (declare 0) (refused_under 10)
     -- Post, the letter: none is there, or one that the bank does not know
-    ∷ judgement_of empty (post []) (refused_by 2)
-    ∷ judgement_of (with_voices 1) (post (0x42 ∷ 1 ∷ 0x4D ∷ 0 ∷ 0 ∷ 0 ∷ [])) (refused_by 2)
+    ∷ judgement_of empty (post []) (refused_under 2)
+    ∷ judgement_of (with_voices 1) (post (0x42 ∷ 1 ∷ 0x4D ∷ 0 ∷ 0 ∷ 0 ∷ [])) (refused_under 2)
     -- it goes before a count of 0
-    ∷ judgement_of empty (post (0x42 ∷ 0 ∷ [])) (refused_by 2)
+    ∷ judgement_of empty (post (0x42 ∷ 0 ∷ [])) (refused_under 2)
     -- the count, from 1 to 32: none is there, or it is 0
-    ∷ judgement_of empty (post (0x41 ∷ [])) (refused_by 5)
-    ∷ judgement_of empty (post (first_differ 0)) (refused_by 5)
+    ∷ judgement_of empty (post (0x41 ∷ [])) (refused_under 5)
+    ∷ judgement_of empty (post (first_differ 0)) (refused_under 5)
     -- it is 1, 32 or 33
     ∷ judgement_of (with_voices 80) (post (first_differ 1)) passes
     ∷ judgement_of (with_voices 80) (post (first_differ 32)) passes
-    ∷ judgement_of (with_voices 80) (post (first_differ 33)) (refused_by 5)
+    ∷ judgement_of (with_voices 80) (post (first_differ 33)) (refused_under 5)
     -- it goes before a wrong length
-    ∷ judgement_of empty (post (0x41 ∷ 33 ∷ [])) (refused_by 5)
+    ∷ judgement_of empty (post (0x41 ∷ 33 ∷ [])) (refused_under 5)
     -- the length: a byte is missing, or one too many is there
-    ∷ judgement_of (with_voices 1) (post (0x41 ∷ 1 ∷ 0x4D ∷ 0 ∷ 0 ∷ [])) (refused_by 6)
-    ∷ judgement_of (with_voices 1) (post (first_differ 1 ++ (0 ∷ []))) (refused_by 6)
+    ∷ judgement_of (with_voices 1) (post (0x41 ∷ 1 ∷ 0x4D ∷ 0 ∷ 0 ∷ [])) (refused_under 6)
+    ∷ judgement_of (with_voices 1) (post (first_differ 1 ++ (0 ∷ []))) (refused_under 6)
     -- it goes before a wrong mark
-    ∷ judgement_of empty (post (0x41 ∷ 1 ∷ 0x4C ∷ 0 ∷ 0 ∷ [])) (refused_by 6)
+    ∷ judgement_of empty (post (0x41 ∷ 1 ∷ 0x4C ∷ 0 ∷ 0 ∷ [])) (refused_under 6)
     -- the mark of each member: of the first, of the second
-    ∷ judgement_of (with_voices 1) (post (0x41 ∷ 1 ∷ 0x4C ∷ 0 ∷ 0 ∷ 0 ∷ [])) (refused_by 7)
+    ∷ judgement_of (with_voices 1) (post (0x41 ∷ 1 ∷ 0x4C ∷ 0 ∷ 0 ∷ 0 ∷ [])) (refused_under 7)
     ∷ judgement_of (with_voices 2) (post (0x41 ∷ 2 ∷ 0x4D ∷ 0 ∷ 0 ∷ 0 ∷ 0x4E ∷ 1 ∷ 0 ∷ 0 ∷ []))
-    (refused_by 7)
+    (refused_under 7)
     -- it goes before a voice that is not declared
-    ∷ judgement_of empty (post (0x41 ∷ 1 ∷ 0x4C ∷ 0 ∷ 1 ∷ 0 ∷ [])) (refused_by 7)
+    ∷ judgement_of empty (post (0x41 ∷ 1 ∷ 0x4C ∷ 0 ∷ 1 ∷ 0 ∷ [])) (refused_under 7)
     -- a voice: the last that is declared, and one past it
     ∷ judgement_of (with_voices 3) (post (one_member_row 2 0 0)) passes
-    ∷ judgement_of (with_voices 3) (post (one_member_row 3 0 0)) (refused_by 8)
+    ∷ judgement_of (with_voices 3) (post (one_member_row 3 0 0)) (refused_under 8)
     -- the kind's own rule: an argument of 1 or of -1, a voice that is there twice
-    ∷ judgement_of (with_voices 1) (post (one_member_row 0 1 0)) (refused_by 9)
-    ∷ judgement_of (with_voices 1) (post (one_member_row 0 0xFF 0xFF)) (refused_by 9)
-    ∷ judgement_of (with_voices 1) (post voice_twice) (refused_by 9)
+    ∷ judgement_of (with_voices 1) (post (one_member_row 0 1 0)) (refused_under 9)
+    ∷ judgement_of (with_voices 1) (post (one_member_row 0 0xFF 0xFF)) (refused_under 9)
+    ∷ judgement_of (with_voices 1) (post voice_twice) (refused_under 9)
     -- a voice that is not declared goes before a rule that is broken, and before the limits, and
     -- that rule before the limits
-    ∷ judgement_of (with_voices 1) (post (one_member_row 1 1 0)) (refused_by 8)
-    ∷ judgement_of empty (post voice_twice) (refused_by 8)
-    ∷ judgement_of (with_short_rows 120) (post (one_member_row 1 0 0)) (refused_by 8)
-    ∷ judgement_of (with_short_rows 120) (post voice_twice) (refused_by 9)
+    ∷ judgement_of (with_voices 1) (post (one_member_row 1 1 0)) (refused_under 8)
+    ∷ judgement_of empty (post voice_twice) (refused_under 8)
+    ∷ judgement_of (with_short_rows 120) (post (one_member_row 1 0 0)) (refused_under 8)
+    ∷ judgement_of (with_short_rows 120) (post voice_twice) (refused_under 9)
     -- the 120th row, and one more
     ∷ judgement_of (with_short_rows 119) (post (first_differ 1)) passes
-    ∷ judgement_of (with_short_rows 120) (post (first_differ 1)) (refused_by 12)
+    ∷ judgement_of (with_short_rows 120) (post (first_differ 1)) (refused_under 12)
     -- 8,192 bytes: 8,162 and 30 more, 8,162 and 34, 8,164 and 30
     ∷ bytes_of (long_rows 3 8) 8162
     ∷ length_of (first_differ 7) 30
     ∷ judgement_of (with_long_rows 3 8) (post (first_differ 7)) passes
-    ∷ judgement_of (with_long_rows 3 8) (post (first_differ 8)) (refused_by 12)
+    ∷ judgement_of (with_long_rows 3 8) (post (first_differ 8)) (refused_under 12)
     ∷ bytes_of (long_rows 4 6) 8164
-    ∷ judgement_of (with_long_rows 4 6) (post (first_differ 7)) (refused_by 12)
+    ∷ judgement_of (with_long_rows 4 6) (post (first_differ 7)) (refused_under 12)
     -- Solve: a budget of 0, 1, 1,000,000 and 1,000,001, and of 0 where the search is over
-    ∷ judgement_of empty (solve 0) (refused_by 13)
+    ∷ judgement_of empty (solve 0) (refused_under 13)
     ∷ judgement_of empty (solve 1) passes
     ∷ judgement_of empty (solve 1_000_000) passes
-    ∷ judgement_of empty (solve 1_000_001) (refused_by 13)
-    ∷ judgement_of (empty_at unsolvable 1) (solve 0) (refused_by 13)
+    ∷ judgement_of empty (solve 1_000_001) (refused_under 13)
+    ∷ judgement_of (empty_at unsatisfiable 1) (solve 0) (refused_under 13)
     -- opened nodes and the budget, at most 1,000,000,000,000 together
     ∷ judgement_of (empty_at unfinished 999_999_000_000) (solve 1_000_000) passes
-    ∷ judgement_of (empty_at unfinished 999_999_000_001) (solve 1_000_000) (refused_by 14)
+    ∷ judgement_of (empty_at unfinished 999_999_000_001) (solve 1_000_000) (refused_under 14)
     ∷ judgement_of (empty_at unfinished 999_999_999_999) (solve 1) passes
-    ∷ judgement_of (empty_at unfinished 1_000_000_000_000) (solve 1) (refused_by 14)
+    ∷ judgement_of (empty_at unfinished 1_000_000_000_000) (solve 1) (refused_under 14)
     -- unless the search is over
-    ∷ judgement_of (empty_at unsolvable 1_000_000_000_000) (solve 1) passes
-    ∷ judgement_of (empty_at (solved []) 1_000_000_000_000) (solve 1_000_000) passes
+    ∷ judgement_of (empty_at unsatisfiable 1_000_000_000_000) (solve 1) passes
+    ∷ judgement_of (empty_at (satisfied []) 1_000_000_000_000) (solve 1_000_000) passes
     -- the budget goes before them
-    ∷ judgement_of (empty_at unfinished 1_000_000_000_000) (solve 1_000_001) (refused_by 13)
+    ∷ judgement_of (empty_at unfinished 1_000_000_000_000) (solve 1_000_001) (refused_under 13)
     -- Read: no result yet, or none
-    ∷ judgement_of (empty_at fresh 0) (read (7 ∷ 7 ∷ [])) (refused_by 15)
-    ∷ judgement_of (empty_at unfinished 1) (read (7 ∷ 7 ∷ [])) (refused_by 15)
-    ∷ judgement_of (empty_at unsolvable 3) (read (7 ∷ 7 ∷ [])) (refused_by 15)
+    ∷ judgement_of (empty_at fresh 0) (read (7 ∷ 7 ∷ [])) (refused_under 15)
+    ∷ judgement_of (empty_at unfinished 1) (read (7 ∷ 7 ∷ [])) (refused_under 15)
+    ∷ judgement_of (empty_at unsatisfiable 3) (read (7 ∷ 7 ∷ [])) (refused_under 15)
     -- a buffer that is too short, and those that are long enough
-    ∷ judgement_of (empty_at (solved (1 ∷ 3 ∷ [])) 2) (read (7 ∷ [])) (refused_by 16)
-    ∷ judgement_of (empty_at (solved (1 ∷ 3 ∷ [])) 2) (read (7 ∷ 7 ∷ [])) passes
-    ∷ judgement_of (empty_at (solved []) 1) (read []) passes
+    ∷ judgement_of (empty_at (satisfied (1 ∷ 3 ∷ [])) 2) (read (7 ∷ [])) (refused_under 16)
+    ∷ judgement_of (empty_at (satisfied (1 ∷ 3 ∷ [])) 2) (read (7 ∷ 7 ∷ [])) passes
+    ∷ judgement_of (empty_at (satisfied []) 1) (read []) passes
     -- Wipe passes always
     ∷ judgement_of (with_voices 80) wipe passes
     ∷ []
@@ -180,12 +181,12 @@ RefusalsHold = All CallHolds refusals
 abbrev pub limit_histories : List SearchCase
 limit_histories =
     -- 80 voices
-    calls_over large (declared_times 80) (with_voices 80) 0 []
-    ∷ calls_over large ((declare 6, refused 11) ∷ declared_times 80) (with_voices 80) 0 []
+    calls_over large (many_declares 80) (with_voices 80) 0 []
+    ∷ calls_over large ((declare 6, refused 11) ∷ many_declares 80) (with_voices 80) 0 []
     -- 120 rows
-    ∷ calls_over large (posted_times 120 1 ++ declared_times 1) (with_short_rows 120) 0 []
-    ∷ calls_over large ((post (first_differ 1), refused 12) ∷ posted_times 120 1
-    ++ declared_times 1)
+    ∷ calls_over large (many_posts 120 1 ++ many_declares 1) (with_short_rows 120) 0 []
+    ∷ calls_over large ((post (first_differ 1), refused 12) ∷ many_posts 120 1
+    ++ many_declares 1)
     (with_short_rows 120) 0 []
     -- 8,192 bytes
     ∷ calls_over large full_history full_table 0 []

@@ -8,7 +8,7 @@ use Rattle.search.specs.Calls.{TableData, Call, Answer}
 use Rattle.search.specs.Histories.{LeadsTo}
 use Rattle.cases.specs.CaseRows.{differing}
 use Rattle.cases.specs.Tables.{CaseStore}
-use Rattle.cases.specs.Tables.CaseStore.{shelf_of, bare_case}
+use Rattle.cases.specs.Tables.CaseStore.{shelf_of, bare_store}
 
 -- calls over a store, of rows of a bank, each with its answer, the newest first; and what is to
 -- come of them: the table, how many keys the store has lost since it was emptied, and the keys that
@@ -38,7 +38,7 @@ pub record SearchHolds (b : Behaviour) (g : b.State) (c : SearchCase) : Type 0 w
 -- a shelf that may use so many words and holds no key, or the bare store
 abbrev pub SearchHoldsOver : CaseStore → SearchCase → Type 0
 SearchHoldsOver (shelf_of words) c = SearchHolds shelf (record { held = []; room = words }) c
-SearchHoldsOver bare_case c = SearchHolds stores.bare tt c
+SearchHoldsOver bare_store c = SearchHolds stores.bare tt c
 
 -- over its store, the calls of the case come to its table and keys
 abbrev pub SearchCaseHolds : SearchCase → Type 0

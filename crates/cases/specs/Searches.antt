@@ -9,7 +9,7 @@ use Rattle.search.specs.Calls.Call.{declare, post, solve, read, wipe}
 use Rattle.search.specs.Calls.Answer.{done, refused, found, none, stopped, wrote}
 use Rattle.cases.specs.CaseRows.{differs_2, differs_3, differs_5}
 use Rattle.cases.specs.Tables.{large, first_differ, table_with}
-use Rattle.cases.specs.Tables.CaseStore.{shelf_of, bare_case}
+use Rattle.cases.specs.Tables.CaseStore.{shelf_of, bare_store}
 use Rattle.cases.specs.SearchCases.{SearchCase, calls_over, SearchCaseHolds}
 
 -- ---- three voices {1,2} that differ
@@ -78,39 +78,42 @@ root_key = 6 ∷ 6 ∷ 24 ∷ 24 ∷ 24 ∷ 1 ∷ 0 ∷ []
 abbrev pub searches : List SearchCase
 searches =
     -- three voices cannot differ with two values: over a large shelf, and over the bare store
-    calls_over large ((solve 9, none) ∷ three_posted) (three_at Status.unsolvable 3 1) 0
+    calls_over large ((solve 9, none) ∷ three_posted) (three_at Status.unsatisfiable 3 1) 0
     (three_key ∷ [])
-    ∷ calls_over bare_case ((solve 9, none) ∷ three_posted) (three_at Status.unsolvable 3 1) 1 []
+    ∷ calls_over bare_store ((solve 9, none) ∷ three_posted) (three_at Status.unsatisfiable 3 1) 1
+    []
     -- a budget of just as many nodes ends the search; one of 2 stops after the first child, and 1
     -- more ends it with the same counts
-    ∷ calls_over large ((solve 3, none) ∷ three_posted) (three_at Status.unsolvable 3 1) 0
+    ∷ calls_over large ((solve 3, none) ∷ three_posted) (three_at Status.unsatisfiable 3 1) 0
     (three_key ∷ [])
     ∷ calls_over large ((solve 2, stopped) ∷ three_posted) (three_at (going three_root []) 2 0) 0 []
     ∷ calls_over large ((solve 1, none) ∷ (solve 2, stopped) ∷ three_posted)
-    (three_at Status.unsolvable 3 1) 0
+    (three_at Status.unsatisfiable 3 1) 0
     (three_key ∷ [])
     -- both children of the root have one key: a store that holds it saves the search of the second
-    ∷ calls_over large ((solve 9, none) ∷ five_posted) (five_at Status.unsolvable 5 2) 0
+    ∷ calls_over large ((solve 9, none) ∷ five_posted) (five_at Status.unsatisfiable 5 2) 0
     (child_key ∷ root_key ∷ [])
-    ∷ calls_over bare_case ((solve 9, none) ∷ five_posted) (five_at Status.unsolvable 7 3) 3 []
+    ∷ calls_over bare_store ((solve 9, none) ∷ five_posted) (five_at Status.unsatisfiable 7 3) 3 []
     -- room for one key is enough, and a word less is not
-    ∷ calls_over (shelf_of 8) ((solve 9, none) ∷ five_posted) (five_at Status.unsolvable 5 2) 1
+    ∷ calls_over (shelf_of 8) ((solve 9, none) ∷ five_posted) (five_at Status.unsatisfiable 5 2) 1
     (child_key ∷ [])
-    ∷ calls_over (shelf_of 7) ((solve 9, none) ∷ five_posted) (five_at Status.unsolvable 7 3) 3 []
+    ∷ calls_over (shelf_of 7) ((solve 9, none) ∷ five_posted) (five_at Status.unsatisfiable 7 3) 3
+    []
     -- the empty table has one placing, of no values, and it can be read
-    ∷ calls_over large ((solve 9, found []) ∷ []) (table_with [] [] (Status.solved []) 1 0) 0 []
-    ∷ calls_over bare_case ((solve 9, found []) ∷ []) (table_with [] [] (Status.solved []) 1 0) 0 []
+    ∷ calls_over large ((solve 9, found []) ∷ []) (table_with [] [] (Status.satisfied []) 1 0) 0 []
+    ∷ calls_over bare_store ((solve 9, found []) ∷ [])
+    (table_with [] [] (Status.satisfied []) 1 0) 0 []
     ∷ calls_over large ((read [], wrote 0 []) ∷ (solve 1, found []) ∷ [])
-    (table_with [] [] (Status.solved []) 1 0) 0 []
+    (table_with [] [] (Status.satisfied []) 1 0) 0 []
     -- the least placing of two voices: over a large shelf, and over the bare store
     ∷ calls_over large ((solve 9, found (1 ∷ 3 ∷ [])) ∷ two_posted)
-    (two_at (Status.solved (1 ∷ 3 ∷ [])) 2 0) 0 []
-    ∷ calls_over bare_case ((solve 9, found (1 ∷ 3 ∷ [])) ∷ two_posted)
-    (two_at (Status.solved (1 ∷ 3 ∷ [])) 2 0) 0 []
+    (two_at (Status.satisfied (1 ∷ 3 ∷ [])) 2 0) 0 []
+    ∷ calls_over bare_store ((solve 9, found (1 ∷ 3 ∷ [])) ∷ two_posted)
+    (two_at (Status.satisfied (1 ∷ 3 ∷ [])) 2 0) 0 []
     -- it is found again and read with no further node, and a refused call changes nothing
-    ∷ calls_over large two_read (two_at (Status.solved (1 ∷ 3 ∷ [])) 2 0) 0 []
+    ∷ calls_over large two_read (two_at (Status.satisfied (1 ∷ 3 ∷ [])) 2 0) 0 []
     ∷ calls_over large ((declare 0, refused 10) ∷ two_read)
-    (two_at (Status.solved (1 ∷ 3 ∷ [])) 2 0) 0 []
+    (two_at (Status.satisfied (1 ∷ 3 ∷ [])) 2 0) 0 []
     -- another voice begins the search again, and so does a wipe
     ∷ calls_over large ((declare 6, done) ∷ two_read)
     (table_with (10 ∷ 10 ∷ 6 ∷ []) (differs_2 ∷ []) fresh 0 0) 0 []

@@ -10,7 +10,7 @@ use Rattle.search.specs.Calls.{TableData}
 -- loses every key
 pub data CaseStore : Type 0 where
   shelf_of : ℕ → CaseStore
-  bare_case : CaseStore
+  bare_store : CaseStore
 
 -- a shelf that loses none of the keys below
 abbrev pub large : CaseStore

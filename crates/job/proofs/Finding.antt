@@ -8,14 +8,14 @@ use Rattle.sets.specs.Sets.{least}
 use Rattle.rows.specs.Rows.{Meaning}
 use Rattle.stores.specs.Behaviours.{Behaviour}
 use Rattle.search.specs.Search.{Status, Level}
-use Rattle.search.specs.Search.Status.{fresh, going, solved, unsolvable}
+use Rattle.search.specs.Search.Status.{fresh, going, satisfied, unsatisfiable}
 use Rattle.rows.specs.Reasons.{Judgement, judge}
 use Rattle.search.specs.Calls.{TableData, Answer, Does, is_found, result}
 use Rattle.search.specs.Calls.Call.{read}
 use Rattle.search.specs.Calls.Answer.{wrote, refused}
 use Rattle.table.specs.declared.engine.level.End.{End}
 use Rattle.table.specs.declared.engine.level.End.TheVariants.{Fresh, Found, Exhausted}
-use Rattle.table.specs.Statuses.{status_of}
+use Rattle.table.specs.Statuses.{status_at}
 use Rattle.table.specs.Searches.{levels_of}
 use Rattle.table.specs.declared.table.Table as tables
 use Rattle.table.specs.declared.refusal.Refusal.{Refusal}
@@ -23,7 +23,7 @@ use Rattle.table.specs.Refusals.{refusal_number}
 use Rattle.table.specs.Shown.{found_in, read_answer}
 
 -- there are no more values than sets
-pub result_length : (e : End) (sets : List ℕ) (levels : List Level) → length (result (status_of e sets levels)) ≤ length sets
+pub result_length : (e : End) (sets : List ℕ) (levels : List Level) → length (result (status_at e sets levels)) ≤ length sets
 result_length Fresh sets [] = omega arith
 result_length Found sets [] = omega (arith, length-map sets least)
 result_length Exhausted sets [] = omega arith
@@ -51,11 +51,11 @@ read_count {t = t} k after (Does.reads b p j f) e =
 
 -- one that is refused, though the buffer is long enough, has found nothing
 none_found : (p : Status) (buffer : List ℕ) (n : ℕ) → length (result p) ≤ length buffer
-    → judge ((15, not (is_found p)) ∷ (16, ltb (length buffer) (length (result p))) ∷ []) ≡ Judgement.refused_by n → [] ≡ result p
+    → judge ((15, not (is_found p)) ∷ (16, ltb (length buffer) (length (result p))) ∷ []) ≡ Judgement.refused_under n → [] ≡ result p
 none_found fresh buffer n h d = refl
 none_found (going l ls) buffer n h d = refl
-none_found unsolvable buffer n h d = refl
-none_found (solved p) buffer n h d =
+none_found unsatisfiable buffer n h d = refl
+none_found (satisfied p) buffer n h d =
     let f = ap (λ (b : Bool). judge ((16, b) ∷ [])) (le-ltb (length buffer) (length p) h) in
     cc
 

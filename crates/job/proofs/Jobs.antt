@@ -9,8 +9,8 @@ use Rattle.rows.specs.Reasons.{Judgement}
 use Rattle.stores.specs.Behaviours.{Behaviour}
 use Rattle.rows.specs.declared.limits.TheConstants.{MOST_BUDGET, MOST_SHEET}
 use Rattle.search.specs.Search.{Status}
-use Rattle.search.specs.Search.Status.{fresh, going, solved, unsolvable}
-use Rattle.search.specs.Calls.{TableData, begun, Answer, judged, over, result, status_answer, Does}
+use Rattle.search.specs.Search.Status.{fresh, going, satisfied, unsatisfiable}
+use Rattle.search.specs.Calls.{TableData, fresh_table, Answer, judged, over, result, status_answer, Does}
 use Rattle.search.specs.Calls.Call.{solve}
 use Rattle.search.specs.Histories.{History, keys_lost, LeadsTo, declared_voices, posted_rows}
 use Rattle.search.specs.Results.{SolveMeans}
@@ -28,7 +28,7 @@ use Rattle.sheets.specs.Loading.{table_after, LoadAnswer, reading_answer, FillHi
 use Rattle.sheets.specs.Loading.LoadAnswer.{sheet_loaded, sheet_fault}
 use Rattle.job.specs.Promised.{Reports}
 use Rattle.job.specs.Texts.{outcome_text, searched_text}
-use Rattle.job.specs.Planned.{SheetSolved}
+use Rattle.job.specs.Planned.{JobDone}
 
 -- the first 20,000 bytes
 pub sheet_front : (sheet : List ℕ) (n : ℕ) → n ≡ min (length sheet) 20000 → take n sheet ≡ take MOST_SHEET sheet
@@ -64,34 +64,34 @@ solve_outcome (Err refusal) values = refl
 status_outcome : (p : Status) → answer_outcome (status_answer p) ≡ outcome_of p
 status_outcome fresh = refl
 status_outcome (going l ls) = refl
-status_outcome (solved p) = refl
-status_outcome unsolvable = refl
+status_outcome (satisfied p) = refl
+status_outcome unsatisfiable = refl
 
 status_stops : (p : Status) → over p ≡ false → status_answer p ≡ Answer.stopped
 status_stops fresh h = refl
 status_stops (going l ls) h = refl
-status_stops (solved p) h = absurd (both_ways true h refl)
-status_stops unsolvable h = absurd (both_ways true h refl)
+status_stops (satisfied p) h = absurd (both_ways true h refl)
+status_stops unsatisfiable h = absurd (both_ways true h refl)
 
--- the report of a search that stands here
+-- the report of a search with this status
 reports_status : (m : Meaning) (voices : List ℕ) (rows : List RowData) (p : Status) (opened exhausted : ℕ) → SolveMeans m voices rows (status_answer p)
     → (over p ≡ false → opened ≡ 1_000_000) → Reports m voices rows (outcome_text (outcome_name (outcome_of p)) opened exhausted (result p))
 reports_status m voices rows fresh opened exhausted s h =
     subst (λ (n : ℕ). Reports m voices rows (outcome_text (codes "stopped") n exhausted [])) (sym (h refl)) (Reports.reports_stopped exhausted)
 reports_status m voices rows (going l ls) opened exhausted s h =
     subst (λ (n : ℕ). Reports m voices rows (outcome_text (codes "stopped") n exhausted [])) (sym (h refl)) (Reports.reports_stopped exhausted)
-reports_status m voices rows (solved p) opened exhausted s h = Reports.reports_found p opened exhausted s
-reports_status m voices rows unsolvable opened exhausted s h = Reports.reports_none opened exhausted s
+reports_status m voices rows (satisfied p) opened exhausted s h = Reports.reports_found p opened exhausted s
+reports_status m voices rows unsatisfiable opened exhausted s h = Reports.reports_none opened exhausted s
 
 -- ---- a sheet loaded into a new table
 
 module _ (b : Behaviour) (m : Meaning) (L : Laws m) (g : b.State) (sheet : List ℕ) where
   -- the Solve of an accepted sheet
-  solved_job : (voices : List ℕ) (rows : List RowData) (t u : TableData) (v w : b.State) (r : Result Outcome Refusal) (values : List ℕ)
-      → t ≡ begun voices rows → History b m g (posted_after (declared_after [] voices) rows) t v
+  solved : (voices : List ℕ) (rows : List RowData) (t u : TableData) (v w : b.State) (r : Result Outcome Refusal) (values : List ℕ)
+      → t ≡ fresh_table voices rows → History b m g (posted_after (declared_after [] voices) rows) t v
       → Does b m t v (solve MOST_BUDGET) (solve_answer r values) u w
-      → SheetSolved b m g sheet (accepted voices rows) (Ok (result_unwrap_or r Stopped)) u w
-  solved_job voices rows t u v w r values e H D =
+      → JobDone b m g sheet (accepted voices rows) (Ok (result_unwrap_or r Stopped)) u w
+  solved voices rows t u v w r values e H D =
       let a = solve_answer r values in
       let calls = posted_after (declared_after [] voices) rows in
       let j : judged m t (solve MOST_BUDGET) ≡ Judgement.passes = ap (λ (x : TableData). judged m x (solve MOST_BUDGET)) e in
@@ -115,6 +115,6 @@ module _ (b : Behaviour) (m : Meaning) (L : Laws m) (g : b.State) (sheet : List 
 
   pub sheet_solved : (o : SheetReading) (t u : TableData) (v w : b.State) (r : Result Outcome Refusal) (values : List ℕ)
       → sheet_loaded ≡ reading_answer o → t ≡ table_after o → FillHistory b m g [] sheet o t v
-      → Does b m t v (solve MOST_BUDGET) (solve_answer r values) u w → SheetSolved b m g sheet o (Ok (result_unwrap_or r Stopped)) u w
-  sheet_solved (accepted voices rows) t u v w r values e l H D = solved_job voices rows t u v w r values l H.0 D
+      → Does b m t v (solve MOST_BUDGET) (solve_answer r values) u w → JobDone b m g sheet o (Ok (result_unwrap_or r Stopped)) u w
+  sheet_solved (accepted voices rows) t u v w r values e l H D = solved voices rows t u v w r values l H.0 D
   sheet_solved (faulty number place layer) t u v w r values e l H D = absurd (subst IsLoaded e tt)

@@ -15,7 +15,7 @@ use Rattle.table.specs.declared.outcome.Outcome.{Outcome}
 use Rattle.table.specs.declared.outcome.Outcome.TheVariants as outcome
 use Rattle.table.specs.declared.table.Table as tables
 use Rattle.table.specs.Outcomes.{outcome_name}
-use Rattle.table.specs.Statuses.{status_of}
+use Rattle.table.specs.Statuses.{status_at}
 use Rattle.table.specs.Searches.{levels_of}
 use Rattle.table.specs.Shown.{model, found_in}
 use Rattle.sheets.specs.declared.refusal.Layer.{Layer}
@@ -71,7 +71,7 @@ value_lines_length i (s ∷ sets) h =
       value_lines_length (suc i) sets (omega arith),
     )
 
-found_lines_length : (e : End) (sets : List ℕ) (levels : List Level) → length sets ≤ 80 → length (value_lines 0 (result (status_of e sets levels))) ≤ 480
+found_lines_length : (e : End) (sets : List ℕ) (levels : List Level) → length sets ≤ 80 → length (value_lines 0 (result (status_at e sets levels))) ≤ 480
 found_lines_length Fresh sets [] h = omega arith
 found_lines_length Found sets [] h = omega (arith, value_lines_length 0 sets (omega arith))
 found_lines_length Exhausted sets [] h = omega arith

@@ -29,9 +29,9 @@ JobHistory b m given sheet (accepted voices rows) t s lost =
 JobHistory b m given sheet (faulty number place layer) t s lost =
     FillHistory b m given [] sheet (faulty number place layer) t s × (lost ≡ 0)
 
--- A sheet that comes to this was loaded and solved, which led to the table t and the state s: what
--- is reported of it, and that it is as promised.
-pub record SheetSolved (b : Behaviour) (m : Meaning) (given : b.State) (sheet : List ℕ)
+-- A sheet that is read as this was loaded, and solved where it was accepted. That led to the table
+-- t and the state s and came to this: its history, what is reported, and that it is as promised.
+pub record JobDone (b : Behaviour) (m : Meaning) (given : b.State) (sheet : List ℕ)
     (reading : SheetReading) (come_to : Result Outcome SheetRefusal) (t : TableData)
     (s : b.State) : Type 0 where
   pub lost : ℕ
@@ -47,7 +47,7 @@ abbrev pub SolvesLoaded : (b : Behaviour) (m : Meaning) → Result Unit SheetRef
     → Result Outcome SheetRefusal → TableData → b.State → Type 0
 SolvesLoaded b m answer t s come_to u r =
     (given : b.State) (sheet : List ℕ) → load_answer answer ≡ reading_answer (read_sheet m sheet)
-    → LoadLeaves b m sheet given t s → SheetSolved b m given sheet (read_sheet m sheet) come_to u r
+    → LoadLeaves b m sheet given t s → JobDone b m given sheet (read_sheet m sheet) come_to u r
 
 -- the text is what the job writes of this sheet, over a store with the behaviour b that was given
 -- in this state

@@ -21,10 +21,10 @@ keeps_by : (s : LatestState) (k : List ℕ) (held room : Bool) → is_held k s.h
     → Keeps (latest_view s) k (cond held Kept Lost) (latest_view (cond held s (cond room (record { held = k ∷ []; room = s.room }) s)))
 keeps_by s k true room m f = Keeps.held_already m
 keeps_by s k false true m f =
-    Keeps.no_space (latest_view (record { held = k ∷ []; room = s.room })) m (never_fits (length k)) (λ x h. part x k (is_held x s.held) h) (λ _. refl)
+    Keeps.does_not_fit (latest_view (record { held = k ∷ []; room = s.room })) m (never_fits (length k)) (λ x h. part x k (is_held x s.held) h) (λ _. refl)
     (λ e. absurd (both_ways (fits_space (length k) s.room) (ap (λ (n : ℕ). fits_space n s.room) e) f))
 keeps_by s k false false m f =
-    Keeps.no_space (latest_view s) m (never_fits (length k)) (λ x h. or_right (same x k) (is_held x s.held) h) (λ h. h) (λ _. refl)
+    Keeps.does_not_fit (latest_view s) m (never_fits (length k)) (λ x h. or_right (same x k) (is_held x s.held) h) (λ h. h) (λ _. refl)
 
 pub latest_keeps_lawfully : (s t : LatestState) (k : List ℕ) (a : Stored) → (a ≡ latest_answer s k) × (t ≡ latest_after s k) → Keeps (latest_view s) k a (latest_view t)
 latest_keeps_lawfully s t k a h =

@@ -9,9 +9,9 @@ use Rattle.rows.specs.Bytes.{head_length, lettered, counted, right_length, marke
 -- ---- reasons: the numbers of refusals, ascending, each with whether it fits
 
 -- a kind refuses a row under this number
-abbrev pub refused_under : ℕ → Verdict → Bool
-refused_under n (Ok x) = false
-refused_under n (Err f) = kind_number f == n
+abbrev pub kind_refuses : ℕ → Verdict → Bool
+kind_refuses n (Ok x) = false
+kind_refuses n (Err f) = kind_number f == n
 
 -- of one voice more, with this opening set
 abbrev pub voice_reasons : List ℕ → ℕ → List (ℕ × Bool)
@@ -24,8 +24,8 @@ row_reasons m voices rows bs =
     ∷ (5, not (counted bs))
     ∷ (6, not (right_length m bs))
     ∷ (7, not (marked (drop (head_length m bs) bs)))
-    ∷ (8, refused_under 8 (m.accepts (decode m bs) (length voices)))
-    ∷ (9, refused_under 9 (m.accepts (decode m bs) (length voices)))
+    ∷ (8, kind_refuses 8 (m.accepts (decode m bs) (length voices)))
+    ∷ (9, kind_refuses 9 (m.accepts (decode m bs) (length voices)))
     ∷ (12, nat_le MOST_ROWS (length rows) || nat_lt MOST_BYTES (total_bytes rows + length bs))
     ∷ []
 
@@ -34,9 +34,9 @@ row_reasons m voices rows bs =
 -- it passes, or is refused under a number
 pub data Judgement : Type 0 where
   passes : Judgement
-  refused_by : ℕ → Judgement
+  refused_under : ℕ → Judgement
 
 -- by the first reason that fits: the smallest
 abbrev pub judge : List (ℕ × Bool) → Judgement
 judge [] = passes
-judge ((n, fits) ∷ others) = elim fits [ true ↦ refused_by n | false ↦ judge others ]
+judge ((n, fits) ∷ others) = elim fits [ true ↦ refused_under n | false ↦ judge others ]

@@ -10,7 +10,7 @@ use Rattle.stores.specs.Stores.{View}
 use Rattle.search.proofs.AnyStore.{any}
 use Rattle.search.specs.Search.{Status, Steps}
 use Rattle.rows.specs.Reasons.{Judgement}
-use Rattle.search.specs.Calls.{TableData, Call, Answer, Formed, reasons, judged, over, status_answer, result, OpensNodes, Solved, Does}
+use Rattle.search.specs.Calls.{TableData, Call, Answer, Formed, reasons, judged, over, status_answer, result, OpensNodes, SolveRun, Does}
 use Rattle.search.specs.Histories.{History, keys_lost, declared_voices, posted_rows}
 use Rattle.rows.specs.Placed.{Least, Lawless, SameLeast}
 use Rattle.search.specs.Results.{Invariant, Reads, SolveMeans, finished, Budgeted}
@@ -49,16 +49,16 @@ Stops (Answer.wrote n b) = ⊥
 stops_open : (x : Status) → status_answer x ≡ Answer.stopped → over x ≡ false
 stops_open Status.fresh e = refl
 stops_open (Status.going l ls) e = refl
-stops_open (Status.solved p) e = absurd (subst Stops (sym e) tt)
-stops_open Status.unsolvable e = absurd (subst Stops (sym e) tt)
+stops_open (Status.satisfied p) e = absurd (subst Stops (sym e) tt)
+stops_open Status.unsatisfiable e = absurd (subst Stops (sym e) tt)
 
 open_stops : (x : Status) → over x ≡ false → status_answer x ≡ Answer.stopped
 open_stops Status.fresh e = refl
 open_stops (Status.going l ls) e = refl
-open_stops (Status.solved p) e = absurd (both_ways true e refl)
-open_stops Status.unsolvable e = absurd (both_ways true e refl)
+open_stops (Status.satisfied p) e = absurd (both_ways true e refl)
+open_stops Status.unsatisfiable e = absurd (both_ways true e refl)
 
-solved : (m : Meaning) (t : TableData) (v : View) (b : ℕ) (u : TableData) (w : View) (k : ℕ) → Solved any m b t v u w k → Budgeted t b (status_answer u.status) u
+solved : (m : Meaning) (t : TableData) (v : View) (b : ℕ) (u : TableData) (w : View) (k : ℕ) → SolveRun any m b t v u w k → Budgeted t b (status_answer u.status) u
 solved m t v b u w lost S =
     let k = goes_kept S.goes in
     record {
@@ -83,14 +83,14 @@ solve_keeps_budget m t v b a u w j (Does.solves b' u' w' k _ S) = solved m t v b
 
 -- ---- the voices and rows of a history
 
-refused_voices : (m : Meaning) (t : TableData) (h : List (Call × Answer)) (c : Call) (n : ℕ) → judged m t c ≡ Judgement.refused_by n → declared_voices ((c, Answer.refused n) ∷ h) ≡ declared_voices h
+refused_voices : (m : Meaning) (t : TableData) (h : List (Call × Answer)) (c : Call) (n : ℕ) → judged m t c ≡ Judgement.refused_under n → declared_voices ((c, Answer.refused n) ∷ h) ≡ declared_voices h
 refused_voices m t h (declare s) n j = refl
 refused_voices m t h (post bs) n j = refl
 refused_voices m t h (solve b) n j = refl
 refused_voices m t h (read b) n j = refl
 refused_voices m t h wipe n j = absurd (not_both j refl)
 
-refused_rows : (m : Meaning) (t : TableData) (h : List (Call × Answer)) (c : Call) (n : ℕ) → judged m t c ≡ Judgement.refused_by n → posted_rows m ((c, Answer.refused n) ∷ h) ≡ posted_rows m h
+refused_rows : (m : Meaning) (t : TableData) (h : List (Call × Answer)) (c : Call) (n : ℕ) → judged m t c ≡ Judgement.refused_under n → posted_rows m ((c, Answer.refused n) ∷ h) ≡ posted_rows m h
 refused_rows m t h (declare s) n j = refl
 refused_rows m t h (post bs) n j = refl
 refused_rows m t h (solve b) n j = refl
@@ -127,8 +127,8 @@ last (History.then h t u v w c a H o d) = (t, v, H, d, o)
 says_of : (m : Meaning) (lost : ℕ) (t : TableData) (v : View) → Invariant m lost t v → (x : Status) → t.status ≡ x → SolveMeans m t.voices t.rows (status_answer x)
 says_of m lost t v s Status.fresh e = tt
 says_of m lost t v s (Status.going l ls) e = tt
-says_of m lost t v s (Status.solved p) e = s.found_least p e
-says_of m lost t v s Status.unsolvable e = s.none_lawful e
+says_of m lost t v s (Status.satisfied p) e = s.found_least p e
+says_of m lost t v s Status.unsatisfiable e = s.none_lawful e
 
 says_after : (m : Meaning) (lost : ℕ) (t : TableData) (v : View) (b : ℕ) (a : Answer) (u : TableData) (w : View) → Does any m t v (solve b) a u w → Invariant m lost u w
     → SolveMeans m u.voices u.rows a
@@ -173,7 +173,7 @@ Wrote m t v buffer (Answer.refused n) = Unit {0}
 Wrote m t v buffer (Answer.found p) = Unit {0}
 Wrote m t v buffer Answer.none = Unit {0}
 Wrote m t v buffer Answer.stopped = Unit {0}
-Wrote m t v buffer (Answer.wrote n b) = (p : List ℕ) × (t.status ≡ Status.solved p) × (length p ≤ length buffer) × (n ≡ length p) × (b ≡ p ++ drop (length p) buffer)
+Wrote m t v buffer (Answer.wrote n b) = (p : List ℕ) × (t.status ≡ Status.satisfied p) × (length p ≤ length buffer) × (n ≡ length p) × (b ≡ p ++ drop (length p) buffer)
 
 wrote : (m : Meaning) (t : TableData) (v : View) (buffer : List ℕ) (a : Answer) (u : TableData) (w : View) → Does any m t v (read buffer) a u w → Wrote m t v buffer a × (u ≡ t)
 wrote m t v buffer a u w (Does.refuses c n d) = (tt, refl)

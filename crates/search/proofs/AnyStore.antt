@@ -27,8 +27,8 @@ any = record {
 module _ (b : Behaviour) (m : Meaning) where
   pub backs_any : {rows : List RowData} {ls : List Level} {s : b.State} {p : Status} {t : b.State} {n k : ℕ} → BacksUp b m rows ls s p t n k
       → BacksUp any m rows ls (b.view s) p (b.view t) n k
-  backs_any (BacksUp.at_root s) = BacksUp.at_root (b.view s)
-  backs_any (BacksUp.goes_on l ls s z) = BacksUp.goes_on l ls (b.view s) z
+  backs_any (BacksUp.root_failed s) = BacksUp.root_failed (b.view s)
+  backs_any (BacksUp.value_left l ls s z) = BacksUp.value_left l ls (b.view s) z
   backs_any {rows} (BacksUp.key_kept l ls s t u p n k z K B) =
       BacksUp.key_kept l ls (b.view s) (b.view t) (b.view u) p n k z (b.keeps_lawfully s t (key m rows l.sets) Kept K) (backs_any B)
   backs_any {rows} (BacksUp.key_lost l ls s t u p n k z K B) =
@@ -81,8 +81,8 @@ module _ (b : Behaviour) (m : Meaning) where
   -- keys that are new there are new here
   backs_new : {rows : List RowData} {ls : List Level} {s : b.State} {p : Status} {t : b.State} {n k : ℕ} (B : BacksUp b m rows ls s p t n k) → BacksNew (backs_any B) → BacksNew B
   unfolding backs_any
-  backs_new (BacksUp.at_root s) h = tt
-  backs_new (BacksUp.goes_on l ls s z) h = tt
+  backs_new (BacksUp.root_failed s) h = tt
+  backs_new (BacksUp.value_left l ls s z) h = tt
   backs_new (BacksUp.key_kept l ls s t u p n k z K B) h = (h.0, backs_new B h.1)
   backs_new (BacksUp.key_lost l ls s t u p n k z K B) h = (h.0, backs_new B h.1)
 

@@ -131,12 +131,12 @@ rise_first k b e =
 abbrev StatusRises : Status → Type 0
 StatusRises fresh = Unit {0}
 StatusRises (going l ls) = Rising (l ∷ ls)
-StatusRises (Status.solved p) = Unit {0}
-StatusRises Status.unsolvable = Unit {0}
+StatusRises (Status.satisfied p) = Unit {0}
+StatusRises Status.unsatisfiable = Unit {0}
 
 rise_back : {m : Meaning} {rows : List RowData} {ls : List Level} {v : View} {p : Status} {w : View} {n k : ℕ} → BacksUp any m rows ls v p w n k → Rising ls → StatusRises p
-rise_back (BacksUp.at_root v) r = tt
-rise_back (BacksUp.goes_on l ls v z) r = r
+rise_back (BacksUp.root_failed v) r = tt
+rise_back (BacksUp.value_left l ls v z) r = r
 rise_back (BacksUp.key_kept l ls v w u p n k z K B) r = rise_back B r.2
 rise_back (BacksUp.key_lost l ls v w u p n k z K B) r = rise_back B r.2
 

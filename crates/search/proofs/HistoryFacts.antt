@@ -11,12 +11,12 @@ use Rattle.rows.proofs.Layouts.{bytes_both_ways}
 use Rattle.stores.specs.Stores.{is_held, View, distinct_keys}
 use Rattle.search.proofs.AnyStore.{any}
 use Rattle.search.specs.Search.{Status}
-use Rattle.rows.specs.Reasons.{Judgement, judge, refused_under}
+use Rattle.rows.specs.Reasons.{Judgement, judge, kind_refuses}
 use Rattle.search.specs.Calls.{TableData, Call, Answer, Formed, reasons, judged, OpensNodes, Does, lost_after, empty}
 use Rattle.search.specs.Histories.{History, keys_lost}
 use Rattle.search.specs.Results.{Invariant}
 use Rattle.rows.specs.Placed.{AllAccepted}
-use Rattle.search.specs.Search.Status.{fresh, going, solved, unsolvable}
+use Rattle.search.specs.Search.Status.{fresh, going, satisfied, unsatisfiable}
 use Rattle.search.specs.Calls.Call.{declare, post}
 use Rattle.search.proofs.NodeFacts.{Stage, SoundStore, steps}
 
@@ -53,9 +53,9 @@ okay_push m (x ∷ rows) r n a o = (o.0, okay_push m rows r n a o.1)
 
 abbrev IsRefused : Judgement → Type 0
 IsRefused Judgement.passes = ⊥
-IsRefused (Judgement.refused_by n) = Unit {0}
+IsRefused (Judgement.refused_under n) = Unit {0}
 
-pub not_both : {x : Judgement} {n : ℕ} → x ≡ Judgement.refused_by n → x ≡ Judgement.passes → ⊥
+pub not_both : {x : Judgement} {n : ℕ} → x ≡ Judgement.refused_under n → x ≡ Judgement.passes → ⊥
 not_both e f = subst IsRefused f (subst IsRefused (sym e) tt)
 
 -- none of the reasons fits
@@ -68,7 +68,7 @@ none_fits [] e = tt
 none_fits ((n, true) ∷ others) e = absurd (not_both refl e)
 none_fits ((n, false) ∷ others) e = (refl, none_fits others e)
 
-verdict : (x : Verdict) → refused_under 8 x ≡ false → refused_under 9 x ≡ false → x ≡ Ok tt
+verdict : (x : Verdict) → kind_refuses 8 x ≡ false → kind_refuses 9 x ≡ false → x ≡ Ok tt
 verdict (Ok x) a b = refl
 verdict (Err Undeclared) a b = absurd (both_ways true a refl)
 verdict (Err RuleBroken) a b = absurd (both_ways true b refl)
@@ -130,8 +130,8 @@ module _ (m : Meaning) (L : Laws m) where
   bounded rows voices v o e (going l ls) s =
       let g = s.0 in
       omega (arith, s.3, g.depth, g.sits.first.inside, g.sits.long)
-  bounded rows voices v o e (solved p) s = s.2
-  bounded rows voices v o e unsolvable s = s.1
+  bounded rows voices v o e (satisfied p) s = s.2
+  bounded rows voices v o e unsatisfiable s = s.1
 
   pub invariant_holds : (h : List (Call × Answer)) (t : TableData) (v : View) → {g : View} (H : History any m g h t v) → Invariant m (keys_lost H) t v
   invariant_holds h t v H =
@@ -139,8 +139,8 @@ module _ (m : Meaning) (L : Laws m) where
       let at : (p : Status) → t.status ≡ p → Stage m t.rows t.voices p v t.opened t.exhausted =
       λ p e. subst (λ (x : Status). Stage m t.rows t.voices x v t.opened t.exhausted) e f.stage in
       record {
-        found_least = λ p e. record { lawful = (at (solved p) e).0; least = (at (solved p) e).1 };
-        none_lawful = λ e. (at unsolvable e).0;
+        found_least = λ p e. record { lawful = (at (satisfied p) e).0; least = (at (satisfied p) e).1 };
+        none_lawful = λ e. (at unsatisfiable e).0;
         all_kept = f.store.count;
         distinct = f.store.distinct;
         bounded = bounded t.rows t.voices v t.opened t.exhausted t.status f.stage;

@@ -17,8 +17,8 @@ use Rattle.search.proofs.HistoryFacts.{fit, goes}
 module _ (m : Meaning) (rows : List RowData) (voices : List ℕ) where
   backs_new : {ls : List Level} {v : View} {p : Status} {w : View} {n k : ℕ} (B : BacksUp any m rows ls v p w n k) (box : List ℕ)
       → Chain m rows voices ls box → Unheld m rows v ls → BacksNew B
-  backs_new (BacksUp.at_root v) box c u = tt
-  backs_new (BacksUp.goes_on l ls v z) box c u = tt
+  backs_new (BacksUp.root_failed v) box c u = tt
+  backs_new (BacksUp.value_left l ls v z) box c u = tt
   backs_new (BacksUp.key_kept l ls v w x p n k z K B) box c u =
       let a = kept_from v (key m rows l.sets) w K u.0 in
       let s = c.0 in

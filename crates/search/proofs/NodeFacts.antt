@@ -15,7 +15,7 @@ use Rattle.search.specs.Search.{Level, Status, Node, below, level_of, node, chil
 use Rattle.search.specs.Propagation.{propagated}
 use Rattle.stores.specs.declared.store.Stored.TheVariants.{Kept, Lost}
 use Rattle.search.specs.Results.{Stable}
-use Rattle.search.specs.Search.Status.{fresh, going, solved, unsolvable}
+use Rattle.search.specs.Search.Status.{fresh, going, satisfied, unsatisfiable}
 use Rattle.search.specs.Search.Node.{dead, solution, hit, branch}
 use Rattle.search.proofs.SetParts.{rest, empty_has}
 use Rattle.search.proofs.Boxes.{narrow_refl, within_narrow, empty_none, values_only}
@@ -37,9 +37,9 @@ Spent ls o e = o + waiting ls ≤ 1 + 64 * (e + length ls)
 abbrev pub Stage : Meaning → List RowData → List ℕ → Status → View → ℕ → ℕ → Type 0
 Stage m rows voices fresh v o e = o ≡ 0
 Stage m rows voices (going l ls) v o e = Going m rows voices l ls × (0 < l.left) × Unheld m rows v (l ∷ ls) × Spent (l ∷ ls) o e
-Stage m rows voices (solved p) v o e =
+Stage m rows voices (satisfied p) v o e =
     Lawful m voices rows p × ((q : List ℕ) → Lawful m voices rows q → (q ≡ p) ⊎ Lesser p q) × (o ≤ 1 + 64 * (e + length voices))
-Stage m rows voices unsolvable v o e = ((q : List ℕ) → Lawful m voices rows q → ⊥) × (o ≤ 1 + 64 * (e + length voices))
+Stage m rows voices unsatisfiable v o e = ((q : List ℕ) → Lawful m voices rows q → ⊥) × (o ≤ 1 + 64 * (e + length voices))
 
 -- the store, with e nodes exhausted and j keys lost
 pub record SoundStore (m : Meaning) (rows : List RowData) (n : ℕ) (v : View) (e j : ℕ) : Type 0 where
@@ -56,7 +56,7 @@ kept_from v k w (Keeps.held_already h) f = absurd (both_ways (is_held k v.held) 
 kept_from v k w (Keeps.joins w' h s j) f = (λ x z. sym (j.holds x) ∙ z, j.count, j.distinct)
 
 pub lost_from : (v : View) (k : List ℕ) (w : View) → Keeps v k Lost w → From v k w × (distinct_keys v.held ≡ true → distinct_keys w.held ≡ true)
-lost_from v k w (Keeps.no_space w' h s j d z) = (j, d)
+lost_from v k w (Keeps.does_not_fit w' h s j d z) = (j, d)
 
 -- what a node tells of its sets, looked at from the voice c on
 abbrev pub Seen : Meaning → List RowData → View → ℕ → List ℕ → Node → Type 0
@@ -101,9 +101,9 @@ module _ (m : Meaning) (L : Laws m) (rows : List RowData) (voices : List ℕ) (o
 
   backs_up : {ls : List Level} {v : View} {p : Status} {w : View} {n k : ℕ} → BacksUp any m rows ls v p w n k → (box : List ℕ) (o e j : ℕ)
       → Chain m rows voices ls box → Fails m rows box → Unheld m rows v ls → SoundStore m rows (length voices) v e j → Spent ls o e → Both p w o (e + n) (j + k)
-  backs_up (BacksUp.at_root v) box o e j c f u st sp =
+  backs_up (BacksUp.root_failed v) box o e j c f u st sp =
       ((λ q lw. f q (c.keeps q lw.within lw.holding) lw.holding, omega arith), record { sound = st.sound; count = λ z. omega (arith, st.count (omega arith)); distinct = st.distinct })
-  backs_up (BacksUp.goes_on l ls v z) box o e j c f u st sp =
+  backs_up (BacksUp.value_left l ls v z) box o e j c f u st sp =
       ((back_newest m rows voices l ls box c f, omega (arith, eqb-false l.left 0 z), u, omega arith), record { sound = st.sound; count = λ z. omega (arith, st.count (omega arith)); distinct = st.distinct })
   backs_up (BacksUp.key_kept l ls v w x p n k z K B) box o e j c f u st sp =
       let fl = exhausted l ls box c f z in
@@ -139,13 +139,13 @@ module _ (m : Meaning) (L : Laws m) (rows : List RowData) (voices : List ℕ) (o
   same_store : (v : View) (e j : ℕ) → SoundStore m rows (length voices) v e j → SoundStore m rows (length voices) v (e + 0) (j + 0)
   same_store v e j st = record { sound = st.sound; count = λ z. omega (arith, st.count (omega arith)); distinct = st.distinct }
 
-  finds : (b : List ℕ) (ls : List Level) (v : View) (o e j : ℕ) (p : List ℕ) → Below b ls v o e j → Seen m rows v (below ls) b (solution p) → Both (solved p) v o (e + 0) (j + 0)
+  finds : (b : List ℕ) (ls : List Level) (v : View) (o e j : ℕ) (p : List ℕ) → Below b ls v o e j → Seen m rows v (below ls) b (solution p) → Both (satisfied p) v o (e + 0) (j + 0)
   finds b ls v o e j p h y =
       let (pr, still) = h.full y.2 in
       let inside = chain_inside m rows voices ls b h.chain in
       let w = values_within b pr in
       let all : all_fixed b ≡ true = sym (fixed_drop (below ls) b (chain_fixed m rows voices ls b h.chain pr)) ∙ y.0 in
-      subst (λ (x : List ℕ). Both (solved x) v o (e + 0) (j + 0)) (sym y.1) (
+      subst (λ (x : List ℕ). Both (satisfied x) v o (e + 0) (j + 0)) (sym y.1) (
         (
           record { within = within_narrow (values b) b voices inside w; holding = stable_holds m L (length voices) rows b inside.long okay pr still all },
           (λ q lw. elim (chain_least m rows voices ls b (values b) q h.chain w lw.within lw.holding)

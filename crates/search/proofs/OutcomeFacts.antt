@@ -9,15 +9,15 @@ use Rattle.stores.specs.declared.store.Stored.{Stored}
 use Rattle.search.specs.Search.{Level, Status, Node, node, below, child, taken, BacksUp, Opens, Steps}
 use Rattle.search.specs.Propagation.{propagated}
 use Rattle.rows.specs.Reasons.{Judgement}
-use Rattle.search.specs.Calls.{TableData, begun, empty, Call, Answer, judged, reasons, over, is_found, status_answer, result, node_more, OpensNodes, Solved, Does, lost_after}
+use Rattle.search.specs.Calls.{TableData, fresh_table, empty, Call, Answer, judged, reasons, over, is_found, status_answer, result, node_more, OpensNodes, SolveRun, Does, lost_after}
 use Rattle.search.specs.Histories.{History, keys_lost, calls_in}
 use Rattle.search.specs.CallOutcomes.{CallOutcome}
 use Rattle.search.specs.Theorems.{OneOutcome, OneHistory}
 use Rattle.stores.specs.declared.store.Stored.TheVariants.{Kept, Lost}
-use Rattle.search.specs.Search.Status.{fresh, going, solved, unsolvable}
+use Rattle.search.specs.Search.Status.{fresh, going, satisfied, unsatisfiable}
 use Rattle.search.specs.Search.Node.{dead, solution, hit, branch}
 use Rattle.search.specs.Calls.Call.{declare, post, solve, read, wipe}
-use Rattle.rows.specs.Reasons.Judgement.{passes, refused_by}
+use Rattle.rows.specs.Reasons.Judgement.{passes, refused_under}
 use Rattle.search.proofs.HistoryFacts.{none_fits}
 use Rattle.search.proofs.AnyStore.{steps_open}
 
@@ -39,7 +39,7 @@ module _ (store : Behaviour) (d : Decided store) (m : Meaning) where
   abbrev pub up : Stored → Ran store.State → Ran store.State
   up a r = record { status = r.status; state = r.state; exhausts = suc r.exhausts; loses = count_lost a r.loses }
 
-  -- nothing is exhausted, and the search stands here
+  -- nothing is exhausted, and this is the search's status
   abbrev pub stops : Status → store.State → Ran store.State
   stops p v = record { status = p; state = v; exhausts = 0; loses = 0 }
 
@@ -49,12 +49,12 @@ module _ (store : Behaviour) (d : Decided store) (m : Meaning) where
       elim spent [ false ↦ stops (going l ls) v | true ↦ up (d.answer v (key m rows l.sets)) (others (d.after v (key m rows l.sets))) ]
 
   abbrev pub backs : List RowData → List Level → store.State → Ran store.State
-  backs rows [] v = stops unsolvable v
+  backs rows [] v = stops unsatisfiable v
   backs rows (l ∷ ls) v = backs_at rows l ls v (backs rows ls) (eqb l.left 0)
 
   abbrev pub opened : List RowData → List Level → store.State → Node → Ran store.State
   opened rows ls v dead = backs rows ls v
-  opened rows ls v (solution p) = stops (solved p) v
+  opened rows ls v (solution p) = stops (satisfied p) v
   opened rows ls v hit = backs rows ls v
   opened rows ls v (branch l) = stops (going l ls) v
 
@@ -64,8 +64,8 @@ module _ (store : Behaviour) (d : Decided store) (m : Meaning) where
   abbrev pub step : List ℕ → List RowData → Status → store.State → Ran store.State
   step voices rows fresh v = opens rows voices [] v
   step voices rows (going l ls) v = opens rows (child l) (taken l ∷ ls) v
-  step voices rows (solved p) v = stops (solved p) v
-  step voices rows unsolvable v = stops unsolvable v
+  step voices rows (satisfied p) v = stops (satisfied p) v
+  step voices rows unsatisfiable v = stops unsatisfiable v
 
   abbrev pub next : TableData → Ran store.State → TableData
   next t r = node_more t r.status r.exhausts
@@ -91,8 +91,8 @@ module _ (store : Behaviour) (d : Decided store) (m : Meaning) where
 
   backs_is : {rows : List RowData} {ls : List Level} {v : store.State} {p : Status} {w : store.State} {n k : ℕ} (B : BacksUp store m rows ls v p w n k)
       → backs rows ls v ≡ record { status = p; state = w; exhausts = n; loses = k }
-  backs_is (BacksUp.at_root v) = refl
-  backs_is {rows} (BacksUp.goes_on l ls v z) =
+  backs_is (BacksUp.root_failed v) = refl
+  backs_is {rows} (BacksUp.value_left l ls v z) =
       ap (backs_at rows l ls v (backs rows ls)) z
   backs_is {rows} (BacksUp.key_kept l ls v w u p n k z K B) =
       ap (backs_at rows l ls v (backs rows ls)) z
@@ -134,9 +134,9 @@ module _ (store : Behaviour) (d : Decided store) (m : Meaning) where
 
   -- what a call comes to, where i keys were lost before, and how many are lost then
   abbrev pub comes : ℕ → TableData → store.State → Call → Judgement → Answer × TableData × store.State × ℕ
-  comes i t v c (refused_by n) = (Answer.refused n, t, v, i)
-  comes i t v (declare x) passes = (Answer.done, begun (t.voices ++ (x ∷ [])) t.rows, d.emptied v, 0)
-  comes i t v (post bs) passes = (Answer.done, begun t.voices (t.rows ++ (decode m bs ∷ [])), d.emptied v, 0)
+  comes i t v c (refused_under n) = (Answer.refused n, t, v, i)
+  comes i t v (declare x) passes = (Answer.done, fresh_table (t.voices ++ (x ∷ [])) t.rows, d.emptied v, 0)
+  comes i t v (post bs) passes = (Answer.done, fresh_table t.voices (t.rows ++ (decode m bs ∷ [])), d.emptied v, 0)
   comes i t v (solve b) passes = (status_answer (run b t v).0.status, (run b t v).0, (run b t v).1, i + (run b t v).2)
   comes i t v (read buffer) passes = (Answer.wrote (length (result t.status)) (result t.status ++ drop (length (result t.status)) buffer), t, v, i)
   comes i t v wipe passes = (Answer.done, empty, d.emptied v, 0)
@@ -145,9 +145,9 @@ module _ (store : Behaviour) (d : Decided store) (m : Meaning) where
       → comes i t v c (judged m t c) ≡ (a, u, w, lost_after D i)
   does_is {t} {v} (Does.refuses c n j) i = ap (comes i t v c) j
   does_is {t} {v} (Does.declares x w j e) i =
-      ap (comes i t v (declare x)) j ∙ ap (λ (z : store.State). (Answer.done, begun (t.voices ++ (x ∷ [])) t.rows, z, zero)) (sym (d.emptied_only v w e))
+      ap (comes i t v (declare x)) j ∙ ap (λ (z : store.State). (Answer.done, fresh_table (t.voices ++ (x ∷ [])) t.rows, z, zero)) (sym (d.emptied_only v w e))
   does_is {t} {v} (Does.posts bs w j e) i =
-      ap (comes i t v (post bs)) j ∙ ap (λ (z : store.State). (Answer.done, begun t.voices (t.rows ++ (decode m bs ∷ [])), z, zero)) (sym (d.emptied_only v w e))
+      ap (comes i t v (post bs)) j ∙ ap (λ (z : store.State). (Answer.done, fresh_table t.voices (t.rows ++ (decode m bs ∷ [])), z, zero)) (sym (d.emptied_only v w e))
   does_is {t} {v} (Does.wipes w e) i = ap (λ (z : store.State). (Answer.done, empty, z, zero)) (sym (d.emptied_only v w e))
   does_is {t} {v} (Does.solves b u w k j S) i =
       ap (comes i t v (solve b)) j ∙ ap (λ (r : TableData × store.State × ℕ). (status_answer r.0.status, r.0, r.1, i + r.2)) (run_is S.goes b S.inside S.ends)
@@ -176,10 +176,10 @@ module _ (store : Behaviour) (d : Decided store) (m : Meaning) where
     does : BacksUp store m rows ls v status state exhausts loses
 
   some_up : (rows : List RowData) (ls : List Level) (v : store.State) → SomeUp rows ls v
-  some_up rows [] v = record { status = unsolvable; state = v; exhausts = 0; loses = 0; does = BacksUp.at_root v }
+  some_up rows [] v = record { status = unsatisfiable; state = v; exhausts = 0; loses = 0; does = BacksUp.root_failed v }
   some_up rows (l ∷ ls) v =
       elim (cases_Bool (eqb l.left 0)) [
-        | inr z ↦ record { status = going l ls; state = v; exhausts = 0; loses = 0; does = BacksUp.goes_on l ls v z }
+        | inr z ↦ record { status = going l ls; state = v; exhausts = 0; loses = 0; does = BacksUp.value_left l ls v z }
         | inl z ↦ go rows l ls v z (d.answer v (key m rows l.sets)) refl (some_up rows ls (d.after v (key m rows l.sets)))
       ]
     where
@@ -219,7 +219,7 @@ module _ (store : Behaviour) (d : Decided store) (m : Meaning) where
       go : (x : Node) → node m rows (store.view v) (below ls) (propagated m rows b) ≡ x → SomeUp rows ls v → SomeOpen rows b ls v
       go dead e r = record { status = r.status; state = r.state; exhausts = r.exhausts; loses = r.loses; does = Opens.dies r.status r.state r.exhausts r.loses e r.does }
       go hit e r = record { status = r.status; state = r.state; exhausts = r.exhausts; loses = r.loses; does = Opens.hits r.status r.state r.exhausts r.loses e r.does }
-      go (solution p) e r = record { status = solved p; state = v; exhausts = 0; loses = 0; does = Opens.finds p e }
+      go (solution p) e r = record { status = satisfied p; state = v; exhausts = 0; loses = 0; does = Opens.finds p e }
       go (branch l) e r = record { status = going l ls; state = v; exhausts = 0; loses = 0; does = Opens.branches l e }
 
   record SomeStep (voices : List ℕ) (rows : List RowData) (p : Status) (v : store.State) : Type 0 where
@@ -236,14 +236,14 @@ module _ (store : Behaviour) (d : Decided store) (m : Meaning) where
   some_step voices rows (going l ls) v =
       let r = some_open rows (child l) (taken l ∷ ls) v in
       inr (record { status = r.status; state = r.state; exhausts = r.exhausts; loses = r.loses; does = Steps.opens_child l ls v r.state r.status r.exhausts r.loses r.does })
-  some_step voices rows (solved p) v = inl refl
-  some_step voices rows unsolvable v = inl refl
+  some_step voices rows (satisfied p) v = inl refl
+  some_step voices rows unsatisfiable v = inl refl
 
   record SomeSolve (b : ℕ) (t : TableData) (v : store.State) : Type 0 where
     table : TableData
     state : store.State
     loses : ℕ
-    does : Solved store m b t v table state loses
+    does : SolveRun store m b t v table state loses
 
   some_solve : (b : ℕ) (t : TableData) (v : store.State) → SomeSolve b t v
   some_solve zero t v = record { table = t; state = v; loses = 0; does = record { count = 0; inside = omega arith; goes = OpensNodes.stay t v; ends = inr refl } }
@@ -265,21 +265,21 @@ module _ (store : Behaviour) (d : Decided store) (m : Meaning) where
             }
       ]
 
-  found_by : (x : Status) → is_found x ≡ true → x ≡ solved (result x)
+  found_by : (x : Status) → is_found x ≡ true → x ≡ satisfied (result x)
   found_by fresh e = absurd (both_ways false refl e)
   found_by (going l ls) e = absurd (both_ways false refl e)
-  found_by (solved p) e = refl
-  found_by unsolvable e = absurd (both_ways false refl e)
+  found_by (satisfied p) e = refl
+  found_by unsatisfiable e = absurd (both_ways false refl e)
 
   outcome : (t : TableData) (v : store.State) (c : Call) → CallOutcome store m t v c
   outcome t v c = go c (judged m t c) refl
     where
       go : (c : Call) (j : Judgement) → judged m t c ≡ j → CallOutcome store m t v c
-      go c (refused_by n) e = record { answer = Answer.refused n; table = t; state = v; does = Does.refuses c n e }
+      go c (refused_under n) e = record { answer = Answer.refused n; table = t; state = v; does = Does.refuses c n e }
       go (declare x) passes e =
-          record { answer = Answer.done; table = begun (t.voices ++ (x ∷ [])) t.rows; state = d.emptied v; does = Does.declares x (d.emptied v) e (d.empties v) }
+          record { answer = Answer.done; table = fresh_table (t.voices ++ (x ∷ [])) t.rows; state = d.emptied v; does = Does.declares x (d.emptied v) e (d.empties v) }
       go (post bs) passes e =
-          record { answer = Answer.done; table = begun t.voices (t.rows ++ (decode m bs ∷ [])); state = d.emptied v; does = Does.posts bs (d.emptied v) e (d.empties v) }
+          record { answer = Answer.done; table = fresh_table t.voices (t.rows ++ (decode m bs ∷ [])); state = d.emptied v; does = Does.posts bs (d.emptied v) e (d.empties v) }
       go (solve b) passes e =
           let r = some_solve b t v in
           record { answer = status_answer r.table.status; table = r.table; state = r.state; does = Does.solves b r.table r.state r.loses e r.does }

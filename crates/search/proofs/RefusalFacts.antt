@@ -6,7 +6,7 @@ use Rattle.rows.specs.Reasons.{Judgement, judge}
 use Rattle.search.specs.Calls.{TableData, Call, reasons, judged}
 use Rattle.search.specs.Results.{reason_fits}
 use Rattle.search.specs.Calls.Call.{declare, post, solve, read, wipe}
-use Rattle.rows.specs.Reasons.Judgement.{passes, refused_by}
+use Rattle.rows.specs.Reasons.Judgement.{passes, refused_under}
 
 -- the numbers ascend, from above b
 abbrev Above : ℕ → List (ℕ × Bool) → Type 0
@@ -28,11 +28,11 @@ none_below ((n, f) ∷ rs) b k a l =
 -- what a judgement says of the numbers that fit
 abbrev Smallest : List (ℕ × Bool) → Judgement → Type 0
 Smallest rs passes = (k : ℕ) → reason_fits k rs ≡ false
-Smallest rs (refused_by n) = (reason_fits n rs ≡ true) × ((k : ℕ) → k < n → reason_fits k rs ≡ false)
+Smallest rs (refused_under n) = (reason_fits n rs ≡ true) × ((k : ℕ) → k < n → reason_fits k rs ≡ false)
 
 smallest_more : (n : ℕ) (rs : List (ℕ × Bool)) (j : Judgement) → Smallest rs j → Smallest ((n, false) ∷ rs) j
 smallest_more n rs passes h = λ k. or_from (eqb k n && false) (reason_fits k rs) (and_right (eqb k n) false refl) (h k)
-smallest_more n rs (refused_by i) h = (
+smallest_more n rs (refused_under i) h = (
   or_right (eqb i n && false) (reason_fits i rs) h.0,
   (λ k l. or_from (eqb k n && false) (reason_fits k rs) (and_right (eqb k n) false refl) (h.1 k l)),
 )
@@ -48,11 +48,11 @@ smallest ((n, false) ∷ rs) b a = smallest_more n rs (judge rs) (smallest rs n 
 -- and only one judgement says it
 smallest_one : (rs : List (ℕ × Bool)) (i j : Judgement) → Smallest rs i → Smallest rs j → i ≡ j
 smallest_one rs passes passes a b = refl
-smallest_one rs passes (refused_by n) a b = absurd (both_ways (reason_fits n rs) (a n) b.0)
-smallest_one rs (refused_by n) passes a b = absurd (both_ways (reason_fits n rs) (b n) a.0)
-smallest_one rs (refused_by n) (refused_by k) a b =
+smallest_one rs passes (refused_under n) a b = absurd (both_ways (reason_fits n rs) (a n) b.0)
+smallest_one rs (refused_under n) passes a b = absurd (both_ways (reason_fits n rs) (b n) a.0)
+smallest_one rs (refused_under n) (refused_under k) a b =
     elim (cases_order n k) [
-      | inl e ↦ ap refused_by e
+      | inl e ↦ ap refused_under e
       | inr h ↦ elim h [
         | inl l ↦ absurd (both_ways (reason_fits n rs) (b.1 n l) a.0)
         | inr l ↦ absurd (both_ways (reason_fits k rs) (a.1 k l) b.0)
@@ -60,11 +60,11 @@ smallest_one rs (refused_by n) (refused_by k) a b =
     ]
 
 pub refusals_smallest : (m : Meaning) (t : TableData) (c : Call)
-    → ((n : ℕ) → (judged m t c ≡ refused_by n) ↔ ((reason_fits n (reasons m t c) ≡ true) × ((k : ℕ) → k < n → reason_fits k (reasons m t c) ≡ false)))
+    → ((n : ℕ) → (judged m t c ≡ refused_under n) ↔ ((reason_fits n (reasons m t c) ≡ true) × ((k : ℕ) → k < n → reason_fits k (reasons m t c) ≡ false)))
     × ((judged m t c ≡ passes) ↔ ((k : ℕ) → reason_fits k (reasons m t c) ≡ false))
 refusals_smallest m t c =
     let rs = reasons m t c in
     let h = smallest rs 0 (ascending m t c) in (
-      (λ n. ((λ e. subst (Smallest rs) e h), (λ x. smallest_one rs (judge rs) (refused_by n) h x))),
+      (λ n. ((λ e. subst (Smallest rs) e h), (λ x. smallest_one rs (judge rs) (refused_under n) h x))),
       ((λ e. subst (Smallest rs) e h), (λ x. smallest_one rs (judge rs) passes h x)),
     )

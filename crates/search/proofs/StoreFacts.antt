@@ -12,7 +12,7 @@ use Rattle.search.specs.Propagation.{propagated}
 use Rattle.rows.specs.Reasons.{Judgement}
 use Rattle.search.specs.Calls.{TableData, Call, Answer, over, status_answer, result, node_more, OpensNodes, Does, lost_after}
 use Rattle.search.specs.CallOutcomes.{SameKeys}
-use Rattle.search.specs.Search.Status.{going, solved, unsolvable}
+use Rattle.search.specs.Search.Status.{going, satisfied, unsatisfiable}
 use Rattle.search.specs.Search.Node.{dead, solution, hit, branch}
 use Rattle.search.proofs.HistoryFacts.{not_both}
 use Rattle.search.proofs.AnswerFacts.{steps_not_over}
@@ -31,14 +31,14 @@ module _ (m : Meaning) where
 
   -- backing up with no key lost, level by level
   abbrev Backed : List RowData → List Level → View → Status → View → ℕ → Type 0
-  Backed rows [] v p w n = (p ≡ unsolvable) × (w ≡ v) × (n ≡ 0)
+  Backed rows [] v p w n = (p ≡ unsatisfiable) × (w ≡ v) × (n ≡ 0)
   Backed rows (l ∷ ls) v p w n =
       ((eqb l.left 0 ≡ false) × (p ≡ going l ls) × (w ≡ v) × (n ≡ 0))
       ⊎ ((eqb l.left 0 ≡ true) × (x : View) × (i : ℕ) × Keeps v (key m rows l.sets) Kept x × (n ≡ suc i) × Backed rows ls x p w i)
 
   backed : {rows : List RowData} {ls : List Level} {v : View} {p : Status} {w : View} {n k : ℕ} → BacksUp any m rows ls v p w n k → k ≡ 0 → Backed rows ls v p w n
-  backed (BacksUp.at_root v) e = (refl, refl, refl)
-  backed (BacksUp.goes_on l ls v z) e = inl (z, refl, refl, refl)
+  backed (BacksUp.root_failed v) e = (refl, refl, refl)
+  backed (BacksUp.value_left l ls v z) e = inl (z, refl, refl, refl)
   backed (BacksUp.key_kept l ls v w u p n k z K B) e = inr (z, w, n, K, refl, backed B e)
   backed (BacksUp.key_lost l ls v w u p n k z K B) e = absurd (omega arith)
 
@@ -59,12 +59,12 @@ module _ (m : Meaning) where
   abbrev Opened : List RowData → List Level → View → Node → Status → View → ℕ → Type 0
   Opened rows ls v dead p w n = Backed rows ls v p w n
   Opened rows ls v hit p w n = Backed rows ls v p w n
-  Opened rows ls v (solution q) p w n = (p ≡ solved q) × (w ≡ v) × (n ≡ 0)
+  Opened rows ls v (solution q) p w n = (p ≡ satisfied q) × (w ≡ v) × (n ≡ 0)
   Opened rows ls v (branch l) p w n = (p ≡ going l ls) × (w ≡ v) × (n ≡ 0)
 
   opened : {rows : List RowData} {b : List ℕ} {ls : List Level} {v : View} {p : Status} {w : View} {n k : ℕ} → Opens any m rows b ls v p w n k → k ≡ 0
       → Opened rows ls v (node m rows v (below ls) (propagated m rows b)) p w n
-  opened {rows} {b} {ls} {v} (Opens.finds p h) e = subst (λ (x : Node). Opened rows ls v x (solved p) v 0) (sym h) (refl, refl, refl)
+  opened {rows} {b} {ls} {v} (Opens.finds p h) e = subst (λ (x : Node). Opened rows ls v x (satisfied p) v 0) (sym h) (refl, refl, refl)
   opened {rows} {b} {ls} {v} (Opens.branches l h) e = subst (λ (x : Node). Opened rows ls v x (going l ls) v 0) (sym h) (refl, refl, refl)
   opened {rows} {b} {ls} {v} (Opens.dies p w n k h B) e = subst (λ (x : Node). Opened rows ls v x p w n) (sym h) (backed B e)
   opened {rows} {b} {ls} {v} (Opens.hits p w n k h B) e = subst (λ (x : Node). Opened rows ls v x p w n) (sym h) (backed B e)
@@ -113,7 +113,7 @@ module _ (m : Meaning) where
 
   abbrev number : Judgement → ℕ
   number Judgement.passes = 0
-  number (Judgement.refused_by n) = n
+  number (Judgement.refused_under n) = n
 
   none_held : (w w' : View) → w.held ≡ [] → w'.held ≡ [] → SameKeys w w'
   none_held w w' e e' x = ap (is_held x) (e ∙ sym e')

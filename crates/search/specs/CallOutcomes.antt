@@ -36,8 +36,8 @@ SameKeys v w = (x : List ℕ) → is_held x v.held ≡ is_held x w.held
 -- none of the keys of the nodes that are exhausted in backing up is held when it goes to the store
 abbrev pub BacksNew : {b : Behaviour} {m : Meaning} {rows : List RowData} {ls : List Level}
     {s : b.State} {p : Status} {t : b.State} {n k : ℕ} → BacksUp b m rows ls s p t n k → Type 0
-BacksNew (BacksUp.at_root s) = Unit {0}
-BacksNew (BacksUp.goes_on l ls s z) = Unit {0}
+BacksNew (BacksUp.root_failed s) = Unit {0}
+BacksNew (BacksUp.value_left l ls s z) = Unit {0}
 BacksNew {b} {m} {rows} (BacksUp.key_kept l ls s t u p n k z K B) =
     (is_held (key m rows l.sets) (b.view s).held ≡ false) × BacksNew B
 BacksNew {b} {m} {rows} (BacksUp.key_lost l ls s t u p n k z K B) =

@@ -3,7 +3,7 @@ use Rattle.std.specs.Prelude.{◌≡◌, ℕ, zero, suc, ◌+◌, ◌^◌, ◌<�
 use Rattle.rows.specs.Rows.{RowData, Meaning}
 use Rattle.rows.specs.Bytes.{Bytes, decode}
 use Rattle.rows.specs.Reasons.{Judgement, judge, voice_reasons, row_reasons}
-use Rattle.rows.specs.Reasons.Judgement.{passes, refused_by}
+use Rattle.rows.specs.Reasons.Judgement.{passes, refused_under}
 use Rattle.stores.specs.Behaviours.{Behaviour}
 use Rattle.rows.specs.declared.limits.TheConstants.{MOST_BUDGET, MOST_OPENED}
 use Rattle.search.specs.Search.{Status, Steps}
@@ -20,34 +20,34 @@ pub record TableData : Type 0 where
   pub exhausted : ℕ
 
 -- a table whose search has not begun
-abbrev pub begun : List ℕ → List RowData → TableData
-begun voices rows =
+abbrev pub fresh_table : List ℕ → List RowData → TableData
+fresh_table voices rows =
     record { voices = voices; rows = rows; status = Status.fresh; opened = 0; exhausted = 0 }
 
 -- a table with no voices and no rows
 abbrev pub empty : TableData
-empty = begun [] []
+empty = fresh_table [] []
 
 -- the search is over
 abbrev pub over : Status → Bool
 over Status.fresh = false
 over (Status.going l ls) = false
-over (Status.solved p) = true
-over Status.unsolvable = true
+over (Status.satisfied p) = true
+over Status.unsatisfiable = true
 
 -- it is over and has found values
 abbrev pub is_found : Status → Bool
 is_found Status.fresh = false
 is_found (Status.going l ls) = false
-is_found (Status.solved p) = true
-is_found Status.unsolvable = false
+is_found (Status.satisfied p) = true
+is_found Status.unsatisfiable = false
 
 -- the found values
 abbrev pub result : Status → List ℕ
 result Status.fresh = []
 result (Status.going l ls) = []
-result (Status.solved p) = p
-result Status.unsolvable = []
+result (Status.satisfied p) = p
+result Status.unsatisfiable = []
 
 -- ---- calls and answers
 
@@ -119,7 +119,7 @@ pub data OpensNodes (b : Behaviour) (m : Meaning) : ℕ → TableData → b.Stat
 
 -- a Solve with a budget: at most so many nodes, and fewer only if the search is over; the store
 -- loses so many keys
-pub record Solved (b : Behaviour) (m : Meaning) (budget : ℕ) (t : TableData) (s : b.State)
+pub record SolveRun (b : Behaviour) (m : Meaning) (budget : ℕ) (t : TableData) (s : b.State)
     (u : TableData) (r : b.State) (lost : ℕ) : Type 0 where
   pub count : ℕ
   pub inside : count ≤ budget
@@ -130,8 +130,8 @@ pub record Solved (b : Behaviour) (m : Meaning) (budget : ℕ) (t : TableData) (
 abbrev pub status_answer : Status → Answer
 status_answer Status.fresh = stopped
 status_answer (Status.going l ls) = stopped
-status_answer (Status.solved p) = found p
-status_answer Status.unsolvable = none
+status_answer (Status.satisfied p) = found p
+status_answer Status.unsatisfiable = none
 
 -- ---- what a call does to a table and its store
 
@@ -139,19 +139,19 @@ status_answer Status.unsolvable = none
 pub data Does (b : Behaviour) (m : Meaning) (t : TableData) (s : b.State) : Call → Answer
     → TableData → b.State → Type 0 where
   -- a refused call leaves both as they are
-  refuses : (c : Call) (n : ℕ) → judged m t c ≡ refused_by n → Does b m t s c (refused n) t s
+  refuses : (c : Call) (n : ℕ) → judged m t c ≡ refused_under n → Does b m t s c (refused n) t s
   -- Declare, Post and Wipe empty the store, and the search begins again
   declares : (set : ℕ) (r : b.State) → judged m t (declare set) ≡ passes → b.empties s r
-      → Does b m t s (declare set) done (begun (t.voices ++ (set ∷ [])) t.rows) r
+      → Does b m t s (declare set) done (fresh_table (t.voices ++ (set ∷ [])) t.rows) r
   posts : (bs : List ℕ) (r : b.State) → judged m t (post bs) ≡ passes → b.empties s r
-      → Does b m t s (post bs) done (begun t.voices (t.rows ++ (decode m bs ∷ []))) r
+      → Does b m t s (post bs) done (fresh_table t.voices (t.rows ++ (decode m bs ∷ []))) r
   wipes : (r : b.State) → b.empties s r → Does b m t s wipe done empty r
   -- Solve goes on from where the last one stopped
   solves : (budget : ℕ) (u : TableData) (r : b.State) (lost : ℕ)
       → judged m t (solve budget) ≡ passes
-      → Solved b m budget t s u r lost → Does b m t s (solve budget) (status_answer u.status) u r
+      → SolveRun b m budget t s u r lost → Does b m t s (solve budget) (status_answer u.status) u r
   -- the values at the front of the buffer, and the bytes beyond as they were
-  reads : (buffer p : List ℕ) → judged m t (read buffer) ≡ passes → t.status ≡ Status.solved p
+  reads : (buffer p : List ℕ) → judged m t (read buffer) ≡ passes → t.status ≡ Status.satisfied p
       → Does b m t s (read buffer) (wrote (length p) (p ++ drop (length p) buffer)) t s
 
 -- How many keys the store has lost since it was emptied, where it had lost n before this call. No

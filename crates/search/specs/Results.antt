@@ -58,8 +58,8 @@ pub record Projects (m : Meaning) (rows : List RowData) (s t : List ℕ) : Type 
 pub record Invariant (m : Meaning) (lost : ℕ) (t : TableData) (v : View) : Type 0 where
   -- what a finished search has found is the least lawful placing; where it has found none, there is
   -- none
-  pub found_least : (p : List ℕ) → t.status ≡ Status.solved p → Least m t.voices t.rows p
-  pub none_lawful : t.status ≡ Status.unsolvable → Lawless m t.voices t.rows
+  pub found_least : (p : List ℕ) → t.status ≡ Status.satisfied p → Least m t.voices t.rows p
+  pub none_lawful : t.status ≡ Status.unsatisfiable → Lawless m t.voices t.rows
   -- a store that has lost no key holds as many as nodes were exhausted
   pub all_kept : lost ≡ 0 → length v.held ≡ t.exhausted
   -- no key occurs twice

@@ -23,8 +23,8 @@ pub record Level : Type 0 where
 pub data Status : Type 0 where
   fresh : Status
   going : Level → List Level → Status
-  solved : List ℕ → Status
-  unsolvable : Status
+  satisfied : List ℕ → Status
+  unsatisfiable : Status
 
 -- ---- the voice that a node branches on
 
@@ -90,42 +90,42 @@ taken l = record { sets = l.sets; voice = l.voice; left = l.left - only (least l
 -- Over a store with the behaviour b, which is in the state s before and t afterwards.
 
 -- Backing up (backtracking) from a failed node below these levels: a level with no value left to
--- try is exhausted, and its key goes to the store. The search's status then, the store's state,
--- how many levels were exhausted and how many keys were lost.
+-- try is exhausted, and its key goes to the store. It ends with the search's status, the store's
+-- state, how many levels were exhausted, and how many keys were lost.
 pub data BacksUp (b : Behaviour) (m : Meaning) (rows : List RowData) : List Level → b.State → Status
     → b.State → ℕ → ℕ → Type 0 where
-  at_root : (s : b.State) → BacksUp b m rows [] s unsolvable s 0 0
-  goes_on : (l : Level) (ls : List Level) (s : b.State) → (l.left == 0) ≡ false
+  root_failed : (s : b.State) → BacksUp b m rows [] s unsatisfiable s 0 0
+  value_left : (l : Level) (ls : List Level) (s : b.State) → (l.left == 0) ≡ false
       → BacksUp b m rows (l ∷ ls) s (going l ls) s 0 0
-  key_kept : (l : Level) (ls : List Level) (s t u : b.State) (p : Status) (n k : ℕ)
+  key_kept : (l : Level) (ls : List Level) (s t u : b.State) (q : Status) (n k : ℕ)
       → (l.left == 0) ≡ true
-      → b.keeps s (key m rows l.sets) Kept t → BacksUp b m rows ls t p u n k
-      → BacksUp b m rows (l ∷ ls) s p u (suc n) k
-  key_lost : (l : Level) (ls : List Level) (s t u : b.State) (p : Status) (n k : ℕ)
+      → b.keeps s (key m rows l.sets) Kept t → BacksUp b m rows ls t q u n k
+      → BacksUp b m rows (l ∷ ls) s q u (suc n) k
+  key_lost : (l : Level) (ls : List Level) (s t u : b.State) (q : Status) (n k : ℕ)
       → (l.left == 0) ≡ true
-      → b.keeps s (key m rows l.sets) Lost t → BacksUp b m rows ls t p u n k
-      → BacksUp b m rows (l ∷ ls) s p u (suc n) (suc k)
+      → b.keeps s (key m rows l.sets) Lost t → BacksUp b m rows ls t q u n k
+      → BacksUp b m rows (l ∷ ls) s q u (suc n) (suc k)
 
--- Opening the node with the given sets below the levels ls: the same four things.
+-- Opening the node with the given sets below the levels ls: it ends with the same four.
 pub data Opens (b : Behaviour) (m : Meaning) (rows : List RowData) (sets : List ℕ) (ls : List Level)
     (s : b.State) : Status → b.State → ℕ → ℕ → Type 0 where
   finds : (p : List ℕ) → node m rows (b.view s) (below ls) (propagated m rows sets) ≡ solution p
-      → Opens b m rows sets ls s (solved p) s 0 0
+      → Opens b m rows sets ls s (satisfied p) s 0 0
   branches : (l : Level) → node m rows (b.view s) (below ls) (propagated m rows sets) ≡ branch l
       → Opens b m rows sets ls s (going l ls) s 0 0
-  dies : (p : Status) (t : b.State) (n k : ℕ)
+  dies : (q : Status) (t : b.State) (n k : ℕ)
       → node m rows (b.view s) (below ls) (propagated m rows sets) ≡ dead
-      → BacksUp b m rows ls s p t n k → Opens b m rows sets ls s p t n k
-  hits : (p : Status) (t : b.State) (n k : ℕ)
+      → BacksUp b m rows ls s q t n k → Opens b m rows sets ls s q t n k
+  hits : (q : Status) (t : b.State) (n k : ℕ)
       → node m rows (b.view s) (below ls) (propagated m rows sets) ≡ hit
-      → BacksUp b m rows ls s p t n k → Opens b m rows sets ls s p t n k
+      → BacksUp b m rows ls s q t n k → Opens b m rows sets ls s q t n k
 
 -- One node: the root, with the opening sets, of a fresh search, or the next child of the newest
 -- level.
 pub data Steps (b : Behaviour) (m : Meaning) (voices : List ℕ) (rows : List RowData) : Status
     → b.State → Status → b.State → ℕ → ℕ → Type 0 where
-  opens_root : (s t : b.State) (p : Status) (n k : ℕ) → Opens b m rows voices [] s p t n k
-      → Steps b m voices rows fresh s p t n k
-  opens_child : (l : Level) (ls : List Level) (s t : b.State) (p : Status) (n k : ℕ)
-      → Opens b m rows (child l) (taken l ∷ ls) s p t n k
-      → Steps b m voices rows (going l ls) s p t n k
+  opens_root : (s t : b.State) (q : Status) (n k : ℕ) → Opens b m rows voices [] s q t n k
+      → Steps b m voices rows fresh s q t n k
+  opens_child : (l : Level) (ls : List Level) (s t : b.State) (q : Status) (n k : ℕ)
+      → Opens b m rows (child l) (taken l ∷ ls) s q t n k
+      → Steps b m voices rows (going l ls) s q t n k

@@ -133,7 +133,7 @@ SolveKeepsBudget b =
 -- A call is refused under the smallest number that fits, and passes exactly when none does.
 abbrev pub RefusalsSmallest : Type 0
 RefusalsSmallest = (m : Meaning) (t : TableData) (c : Call)
-    → ((n : ℕ) → (judged m t c ≡ Judgement.refused_by n)
+    → ((n : ℕ) → (judged m t c ≡ Judgement.refused_under n)
     ↔ ((reason_fits n (reasons m t c) ≡ true)
     × ((k : ℕ) → k < n → reason_fits k (reasons m t c) ≡ false)))
     × ((judged m t c ≡ Judgement.passes) ↔ ((k : ℕ) → reason_fits k (reasons m t c) ≡ false))

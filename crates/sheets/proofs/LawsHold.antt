@@ -4,7 +4,7 @@ use Rattle.rows.specs.Rows.{Meaning}
 use Rattle.rows.specs.Laws.{Laws}
 use Rattle.rows.specs.Bytes.{Bytes}
 use Rattle.stores.specs.Behaviours.{Behaviour}
-use Rattle.search.specs.Calls.{TableData, empty, begun, Call, Answer, Does}
+use Rattle.search.specs.Calls.{TableData, empty, fresh_table, Call, Answer, Does}
 use Rattle.search.specs.Calls.Call.{wipe}
 use Rattle.search.specs.Calls.Answer.{done}
 use Rattle.search.specs.Histories.{History, LeadsTo}
@@ -58,7 +58,7 @@ module _ (b : Behaviour) (m : Meaning) (L : Laws m) (bs : List ℕ) {w y r : b.S
       let calls = posted_after (declared_after h first.voices) first.rows in (
         first,
         subst (λ (z : TableData). LeadsTo b m g ((wipe, done) ∷ posted_after (declared_after h first.voices) first.rows) z r 0) (sym (d refl).0)
-            (History.then calls (begun first.voices first.rows) empty y r wipe done (f g h H).0 tt (Does.wipes r (d refl).1), refl),
+            (History.then calls (fresh_table first.voices first.rows) empty y r wipe done (f g h H).0 tt (Does.wipes r (d refl).1), refl),
       )
 
   filled : (g : b.State) (h : List (Call × Answer)) → LeadsTo b m g h empty w 0 → FillHistory b m g h bs (read_sheet m bs) u r
@@ -103,7 +103,7 @@ back m L bs b u (faulty number place layer) e f = tt
 pub loads_back : (m : Meaning) → Laws m → (bs : List ℕ) → Bytes bs → (u : TableData) → u ≡ table_after (read_sheet m bs) → LoadBack (read_sheet m bs) bs (sheet u.voices u.rows)
 loads_back m L bs b u f = back m L bs b u (read_sheet m bs) refl f
 
-begun_limited : (m : Meaning) (t : TableData) → Limited m t → Limited m (begun t.voices t.rows)
+begun_limited : (m : Meaning) (t : TableData) → Limited m t → Limited m (fresh_table t.voices t.rows)
 begun_limited m t l = record { voices = l.voices; sets = l.sets; rows = l.rows; bytes = l.bytes; laid_out = l.laid_out; opened = omega arith }
 
 pub saves_again : (b : Behaviour) (m : Meaning) → Laws m → (t : TableData) (v g : b.State) (h : List (Call × Answer)) → History b m g h t v

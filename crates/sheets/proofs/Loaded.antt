@@ -14,7 +14,7 @@ use Rattle.rows.proofs.RowBytes.{row_same}
 use Rattle.stores.specs.Behaviours.{Behaviour}
 use Rattle.stores.specs.Bare.{bare}
 use Rattle.rows.specs.Reasons.{Judgement}
-use Rattle.search.specs.Calls.{TableData, begun, Call, Answer, reasons, judged, Does}
+use Rattle.search.specs.Calls.{TableData, fresh_table, Call, Answer, reasons, judged, Does}
 use Rattle.search.specs.Calls.Call.{declare, post}
 use Rattle.search.specs.Calls.Answer.{done}
 use Rattle.search.specs.Histories.{History, LeadsTo}
@@ -24,7 +24,7 @@ use Rattle.search.proofs.OverEvery.{limits_hold}
 use Rattle.sheets.specs.declared.refusal.Layer.{Layer}
 use Rattle.sheets.specs.Sheets.{voice_record, voice_records, row_records, records, sheet}
 use Rattle.sheets.specs.Reading.{RecordReading, read_record, SheetReading, read_on, read_from, read_sheet}
-use Rattle.sheets.specs.Reading.RecordReading.{last, a_voice, a_row, fault}
+use Rattle.sheets.specs.Reading.RecordReading.{reads_end, reads_voice, reads_row, reads_fault}
 use Rattle.sheets.specs.Reading.SheetReading.{accepted, faulty}
 use Rattle.sheets.specs.Laws.{Holdable, FirstFault, declared_after, posted_after}
 use Rattle.sheets.proofs.Records.{VoiceHere, RowHere, voice_here, row_here, last_here}
@@ -85,7 +85,7 @@ voice_fits_word m voices rows bs s h b =
 row_bytes : (m : Meaning) (voices : List ℕ) (rows : List RowData) (bs r : List ℕ) → RowHere m voices rows bs r → Bytes bs → (Bytes r) × (encode (decode m r) ≡ r) × (r ++ drop (length r) bs ≡ bs) × LaidOut m (decode m r)
 row_bytes m voices rows bs r h b =
     let f : Bytes r = subst Bytes (sym h.front) (bytes_take (length r) bs b) in
-    let back = (bytes_both_ways m).1 r f (layout m (begun voices rows) r h.passes) in
+    let back = (bytes_both_ways m).1 r f (layout m (fresh_table voices rows) r h.passes) in
     (f, back.1, ap (λ (x : List ℕ). x ++ drop (length r) bs) h.front ∙ take-append-drop (length r) bs, back.0)
 
 -- a row that passes has a byte
@@ -118,8 +118,8 @@ module _ (b : Behaviour) (m : Meaning) (whole : List ℕ) (w : b.State) where
             let before = posted_after (declared_after h voices) rows in
             let same : (declare s, done) ∷ before ≡ posted_after (declared_after h (voices ++ (s ∷ []))) rows =
             subst (λ (z : List RowData). (declare s, done) ∷ posted_after (declared_after h voices) z ≡ posted_after (declared_after h (voices ++ (s ∷ []))) z) (sym V.no_rows) (sym (declared_push h voices s)) in
-            subst (λ (z : List (Call × Answer)). LeadsTo b m g z (begun (voices ++ (s ∷ [])) rows) y 0) same
-            (History.then before (begun voices rows) (begun (voices ++ (s ∷ [])) rows) x y (declare s) done (R.fills g h H).0 (voice_fits_word m voices rows bs s V R.bytes) (Does.declares s y V.passes e), refl);
+            subst (λ (z : List (Call × Answer)). LeadsTo b m g z (fresh_table (voices ++ (s ∷ [])) rows) y 0) same
+            (History.then before (fresh_table voices rows) (fresh_table (voices ++ (s ∷ [])) rows) x y (declare s) done (R.fills g h H).0 (voice_fits_word m voices rows bs s V R.bytes) (Does.declares s y V.passes e), refl);
       }
 
   pub one_row : (at : ℕ) (voices : List ℕ) (rows : List RowData) (bs r : List ℕ) (x y : b.State) → ReadSo b m whole w at voices rows bs x → RowHere m voices rows bs r
@@ -137,8 +137,8 @@ module _ (b : Behaviour) (m : Meaning) (whole : List ℕ) (w : b.State) where
             let before = posted_after (declared_after h voices) rows in
             let same : (post r, done) ∷ before ≡ posted_after (declared_after h voices) (rows ++ (d ∷ [])) =
             ap (λ (z : List ℕ). (post z, done) ∷ before) (sym f.1) ∙ sym (posted_push (declared_after h voices) rows d) in
-            subst (λ (z : List (Call × Answer)). LeadsTo b m g z (begun voices (rows ++ (d ∷ []))) y 0) same
-            (History.then before (begun voices rows) (begun voices (rows ++ (d ∷ []))) x y (post r) done (R.fills g h H).0 f.0 (Does.posts r y V.passes e), refl);
+            subst (λ (z : List (Call × Answer)). LeadsTo b m g z (fresh_table voices (rows ++ (d ∷ []))) y 0) same
+            (History.then before (fresh_table voices rows) (fresh_table voices (rows ++ (d ∷ []))) x y (post r) done (R.fills g h H).0 f.0 (Does.posts r y V.passes e), refl);
       }
 
 -- ---- over the bare store, which has one state
@@ -150,11 +150,11 @@ module _ (m : Meaning) (L : Laws m) (whole : List ℕ) where
   pub holdable : {voices : List ℕ} {rows : List RowData} → Fills bare m tt voices rows tt → Holdable m voices rows
   holdable {voices} {rows} f =
       let H = (f tt [] (History.made tt tt, refl)).0 in
-      record { limited = limits_hold bare m tt (posted_after (declared_after [] voices) rows) (begun voices rows) tt H; all_accepted = (fit m L (history_any bare m H)).okay }
+      record { limited = limits_hold bare m tt (posted_after (declared_after [] voices) rows) (fresh_table voices rows) tt H; all_accepted = (fit m L (history_any bare m H)).okay }
 
   -- the first fault
   abbrev pub fault_at : (at : ℕ) (voices : List ℕ) (rows : List RowData) (bs : List ℕ) (k o : ℕ) (layer : Layer) → BareRead m whole at voices rows bs
-      → read_record m voices rows bs ≡ fault k o layer → FirstFault m whole k (at + o) layer
+      → read_record m voices rows bs ≡ reads_fault k o layer → FirstFault m whole k (at + o) layer
   fault_at at voices rows bs k o layer R f = record {
     voices = voices;
     rows = rows;
@@ -174,16 +174,16 @@ module _ (m : Meaning) (L : Laws m) (whole : List ℕ) where
   paired_onto : (n at : ℕ) (voices : List ℕ) (rows : List RowData) (bs : List ℕ) → length bs < suc n → BareRead m whole at voices rows bs
       → ((at : ℕ) (voices : List ℕ) (rows : List RowData) (bs : List ℕ) → length bs < n → BareRead m whole at voices rows bs → ReadRight (read_from m n at voices rows bs))
       → (i : RecordReading) → read_record m voices rows bs ≡ i → ReadRight (read_on m (read_from m n) at voices rows bs i)
-  paired_onto n at voices rows bs l R next last f =
+  paired_onto n at voices rows bs l R next reads_end f =
       (holdable R.fills, ap (λ (x : List ℕ). records voices rows ++ x) (sym (last_here m voices rows bs f)) ∙ R.whole_is)
-  paired_onto n at voices rows bs l R next (a_voice s) f =
+  paired_onto n at voices rows bs l R next (reads_voice s) f =
       let V = voice_here m voices rows bs s f in
       next (at + 9) (voices ++ (s ∷ [])) rows (drop 9 bs) (omega (arith, l, V.long, length-drop 9 bs)) (one_voice bare m whole tt at voices rows bs tt tt s R V tt)
-  paired_onto n at voices rows bs l R next (a_row r) f =
+  paired_onto n at voices rows bs l R next (reads_row r) f =
       let V = row_here m voices rows bs r f in
       next (at + length r) voices (rows ++ (decode m r ∷ [])) (drop (length r) bs)
-      (omega (arith, l, some_row m (begun voices rows) r V.passes, length-drop (length r) bs, ap length V.front, length-take (length r) bs)) (one_row bare m whole tt at voices rows bs r tt tt R V tt)
-  paired_onto n at voices rows bs l R next (fault k o layer) f = fault_at at voices rows bs k o layer R f
+      (omega (arith, l, some_row m (fresh_table voices rows) r V.passes, length-drop (length r) bs, ap length V.front, length-take (length r) bs)) (one_row bare m whole tt at voices rows bs r tt tt R V tt)
+  paired_onto n at voices rows bs l R next (reads_fault k o layer) f = fault_at at voices rows bs k o layer R f
 
   read_right_from : (n at : ℕ) (voices : List ℕ) (rows : List RowData) (bs : List ℕ) → length bs < n → BareRead m whole at voices rows bs → ReadRight (read_from m n at voices rows bs)
   read_right_from zero at voices rows bs l R = absurd (omega (arith, l))

@@ -10,15 +10,15 @@ use Rattle.rows.specs.Bytes.{count_byte, head_length, lettered, counted, right_l
 use Rattle.rows.proofs.Layouts.{bytes_both_ways}
 use Rattle.rows.proofs.RowBytes.{row_same}
 use Rattle.rows.specs.declared.limits.TheConstants.{MOST_ROWS, MOST_BYTES}
-use Rattle.rows.specs.Reasons.{Judgement, judge, refused_under}
-use Rattle.search.specs.Calls.{begun, judged}
+use Rattle.rows.specs.Reasons.{Judgement, judge, kind_refuses}
+use Rattle.search.specs.Calls.{fresh_table, judged}
 use Rattle.search.specs.Calls.Call.{post}
 use Rattle.rows.specs.Placed.{AllAccepted}
 use Rattle.search.specs.Results.{AllLaidOut}
 use Rattle.table.proofs.Judging.{voice_fits}
 use Rattle.sheets.specs.Sheets.{voice_record, voice_records, row_records, sheet}
 use Rattle.sheets.specs.Reading.{if_passes, front_row, read_record, read_on, read_from, read_sheet}
-use Rattle.sheets.specs.Reading.RecordReading.{a_voice, a_row}
+use Rattle.sheets.specs.Reading.RecordReading.{reads_voice, reads_row}
 use Rattle.sheets.specs.Reading.SheetReading.{accepted}
 use Rattle.sheets.specs.Laws.{Holdable}
 use Rattle.sheets.proofs.Records.{whole_voice, at_voice, at_row}
@@ -40,17 +40,17 @@ laid_out_at m (x ∷ xs) r ys a = laid_out_at m xs r ys a.1
 -- ---- a row that fits is accepted
 
 all_pass : (a b c d : Bool) (x : Verdict) (full : Bool) → a ≡ true → b ≡ true → c ≡ true → d ≡ true → x ≡ Ok tt → full ≡ false
-    → judge ((2, not a) ∷ (5, not b) ∷ (6, not c) ∷ (7, not d) ∷ (8, refused_under 8 x) ∷ (9, refused_under 9 x) ∷ (12, full) ∷ []) ≡ Judgement.passes
+    → judge ((2, not a) ∷ (5, not b) ∷ (6, not c) ∷ (7, not d) ∷ (8, kind_refuses 8 x) ∷ (9, kind_refuses 9 x) ∷ (12, full) ∷ []) ≡ Judgement.passes
 all_pass a b c d x full e f g h i j =
-    ap (λ (y : Bool). judge ((2, not y) ∷ (5, not b) ∷ (6, not c) ∷ (7, not d) ∷ (8, refused_under 8 x) ∷ (9, refused_under 9 x) ∷ (12, full) ∷ [])) e
-    ∙ ap (λ (y : Bool). judge ((5, not y) ∷ (6, not c) ∷ (7, not d) ∷ (8, refused_under 8 x) ∷ (9, refused_under 9 x) ∷ (12, full) ∷ [])) f
-    ∙ ap (λ (y : Bool). judge ((6, not y) ∷ (7, not d) ∷ (8, refused_under 8 x) ∷ (9, refused_under 9 x) ∷ (12, full) ∷ [])) g
-    ∙ ap (λ (y : Bool). judge ((7, not y) ∷ (8, refused_under 8 x) ∷ (9, refused_under 9 x) ∷ (12, full) ∷ [])) h
-    ∙ ap (λ (y : Verdict). judge ((8, refused_under 8 y) ∷ (9, refused_under 9 y) ∷ (12, full) ∷ [])) i
+    ap (λ (y : Bool). judge ((2, not y) ∷ (5, not b) ∷ (6, not c) ∷ (7, not d) ∷ (8, kind_refuses 8 x) ∷ (9, kind_refuses 9 x) ∷ (12, full) ∷ [])) e
+    ∙ ap (λ (y : Bool). judge ((5, not y) ∷ (6, not c) ∷ (7, not d) ∷ (8, kind_refuses 8 x) ∷ (9, kind_refuses 9 x) ∷ (12, full) ∷ [])) f
+    ∙ ap (λ (y : Bool). judge ((6, not y) ∷ (7, not d) ∷ (8, kind_refuses 8 x) ∷ (9, kind_refuses 9 x) ∷ (12, full) ∷ [])) g
+    ∙ ap (λ (y : Bool). judge ((7, not y) ∷ (8, kind_refuses 8 x) ∷ (9, kind_refuses 9 x) ∷ (12, full) ∷ [])) h
+    ∙ ap (λ (y : Verdict). judge ((8, kind_refuses 8 y) ∷ (9, kind_refuses 9 y) ∷ (12, full) ∷ [])) i
     ∙ ap (λ (y : Bool). judge ((12, y) ∷ [])) j
 
 module _ (m : Meaning) (L : Laws m) where
-  row_passes : (voices : List ℕ) (rows : List RowData) (r : RowData) (rest : List RowData) → Holdable m voices (rows ++ (r ∷ rest)) → judged m (begun voices rows) (post (encode r)) ≡ Judgement.passes
+  row_passes : (voices : List ℕ) (rows : List RowData) (r : RowData) (rest : List RowData) → Holdable m voices (rows ++ (r ∷ rest)) → judged m (fresh_table voices rows) (post (encode r)) ≡ Judgement.passes
   row_passes voices rows r rest H =
       let w = (bytes_both_ways m).0 r (laid_out_at m rows r rest H.limited.laid_out) in
       let y = w.1 in
@@ -75,15 +75,15 @@ module _ (m : Meaning) (L : Laws m) where
       ∙ take_at (encode r) others (head_length m bs + 4 * count_byte bs) long
 
   read_row_here : (voices : List ℕ) (rows : List RowData) (r : RowData) (rest : List RowData) (others : List ℕ) → Holdable m voices (rows ++ (r ∷ rest))
-      → read_record m voices rows (encode r ++ others) ≡ a_row (encode r)
+      → read_record m voices rows (encode r ++ others) ≡ reads_row (encode r)
   read_row_here voices rows r rest others H =
       let o = laid_out_at m rows r rest H.limited.laid_out in
       let free = or_parts (eqb r.letter 0x56) (eqb r.letter 0x5A || eqb r.letter 0x4D) (L.lettered r.letter o.shape.known_letter).free in
       let free-end = or_parts (eqb r.letter 0x5A) (eqb r.letter 0x4D) free.1 in
       let front = row_front r others ((bytes_both_ways m).0 r o).1 in
       at_row m voices rows r.letter ((r.body ++ member_bytes r.members) ++ others) (eqb-false r.letter 0x5A free-end.0) (eqb-false r.letter 0x56 free.0)
-      ∙ ap (λ (x : List ℕ). if_passes (judged m (begun voices rows) (post x)) (a_row x)) front
-      ∙ ap (λ (j : Judgement). if_passes j (a_row (encode r))) (row_passes voices rows r rest H)
+      ∙ ap (λ (x : List ℕ). if_passes (judged m (fresh_table voices rows) (post x)) (reads_row x)) front
+      ∙ ap (λ (j : Judgement). if_passes j (reads_row (encode r))) (row_passes voices rows r rest H)
 
   rows_load : (rest : List RowData) (n at : ℕ) (voices : List ℕ) (rows : List RowData) → Holdable m voices (rows ++ rest) → length (row_records rest ++ (0x5A ∷ [])) < n
       → read_from m n at voices rows (row_records rest ++ (0x5A ∷ [])) ≡ accepted voices (rows ++ rest)
@@ -104,7 +104,7 @@ module _ (m : Meaning) (L : Laws m) where
       (omega (arith, l, ap length split, length-append (encode r) others))
       ∙ ap (accepted voices) more
 
-  read_voice_here : (voices : List ℕ) (s : ℕ) (rest : List ℕ) (rows : List RowData) (others : List ℕ) → Holdable m (voices ++ (s ∷ rest)) rows → read_record m voices [] (voice_record s ++ others) ≡ a_voice s
+  read_voice_here : (voices : List ℕ) (s : ℕ) (rest : List ℕ) (rows : List RowData) (others : List ℕ) → Holdable m (voices ++ (s ∷ rest)) rows → read_record m voices [] (voice_record s ++ others) ≡ reads_voice s
   read_voice_here voices s rest rows others H =
       let all = voices ++ (s ∷ rest) in
       let long = length-append voices (s ∷ rest) in
@@ -116,7 +116,7 @@ module _ (m : Meaning) (L : Laws m) where
       let number : from_le_bytes w64 (take 8 (low ++ others)) ≡ s = ap (from_le_bytes w64) (take_at low others 8 refl) ∙ from_le_bytes-to_le_bytes_8 s fits in
       at_voice m voices [] 0x56 (low ++ others) refl
       ∙ whole_voice m voices [] (low ++ others) s refl (omega (arith, length-append low others)) number
-      ∙ ap (λ (j : Judgement). if_passes j (a_voice s)) (voice_fits m (begun voices []) s (λ z. omega (arith, some, z)) (omega (arith, H.limited.voices, long)))
+      ∙ ap (λ (j : Judgement). if_passes j (reads_voice s)) (voice_fits m (fresh_table voices []) s (λ z. omega (arith, some, z)) (omega (arith, H.limited.voices, long)))
 
   voices_load : (rest : List ℕ) (rows : List RowData) (n at : ℕ) (voices : List ℕ) → Holdable m (voices ++ rest) rows → length (voice_records rest ++ (row_records rows ++ (0x5A ∷ []))) < n
       → read_from m n at voices [] (voice_records rest ++ (row_records rows ++ (0x5A ∷ []))) ≡ accepted (voices ++ rest) rows

@@ -7,7 +7,7 @@ use Rattle.rows.specs.Bytes.{Bytes, decode}
 use Rattle.stores.specs.Behaviours.{Behaviour}
 use Rattle.stores.specs.Bare.{bare}
 use Rattle.rows.specs.Reasons.{Judgement}
-use Rattle.search.specs.Calls.{TableData, begun, empty, Answer, judged, Does}
+use Rattle.search.specs.Calls.{TableData, fresh_table, empty, Answer, judged, Does}
 use Rattle.search.specs.Calls.Call.{declare, post, wipe}
 use Rattle.table.specs.declared.refusal.Refusal.{Refusal}
 use Rattle.table.specs.Refusals.{refusal_number}
@@ -15,7 +15,7 @@ use Rattle.sheets.specs.declared.refusal.RecordRefusal.{RecordRefusal}
 use Rattle.sheets.specs.declared.refusal.RecordRefusal.TheVariants.{ByTable}
 use Rattle.sheets.specs.Causes.{cause_number, cause_layer, cause_offset}
 use Rattle.sheets.specs.Reading.{RecordReading, if_passes, read_record, SheetReading, read_from, read_on, read_sheet}
-use Rattle.sheets.specs.Reading.RecordReading.{last, a_voice, a_row, fault}
+use Rattle.sheets.specs.Reading.RecordReading.{reads_end, reads_voice, reads_row, reads_fault}
 use Rattle.sheets.specs.Reading.SheetReading.{faulty}
 use Rattle.sheets.specs.Loading.{RecordAnswer, record_answer, reading_record_answer, record_table, Unsearched, RecordStored, RecordRead, Fills, RecordsRead}
 use Rattle.sheets.specs.Loading.RecordAnswer.{sheet_end, record_length, record_fault}
@@ -32,51 +32,51 @@ module _ (b : Behaviour) (m : Meaning) (t u : TableData) (v w : b.State) where
 
   -- it was refused
   turned_down : (j : Judgement) (i : RecordReading) (r : Result (Option ℕ) RecordRefusal) (refusal : Refusal) → Unsearched t → r ≡ Err (ByTable refusal)
-      → (j ≡ Judgement.refused_by (refusal_number refusal)) × (u ≡ t) × (w ≡ v) → RecordRead b m t v (if_passes j i) r u w
+      → (j ≡ Judgement.refused_under (refusal_number refusal)) × (u ≡ t) × (w ≡ v) → RecordRead b m t v (if_passes j i) r u w
   turned_down j i r refusal U e d =
       subst (λ (x : Judgement). RecordRead b m t v (if_passes x i) r u w) (sym d.0)
       (record { answer = ap record_answer e; table = d.1 ∙ U; store = d.2 })
 
 declared_by : (b : Behaviour) (m : Meaning) (t u : TableData) (v w : b.State) (s : ℕ) → Does b m t v (declare s) Answer.done u w
-    → (judged m t (declare s) ≡ Judgement.passes) × (u ≡ begun (t.voices ++ (s ∷ [])) t.rows) × b.empties v w
+    → (judged m t (declare s) ≡ Judgement.passes) × (u ≡ fresh_table (t.voices ++ (s ∷ [])) t.rows) × b.empties v w
 declared_by b m t u v w s (Does.declares s' w' j e) = (j, refl, e)
 
 posted_by : (b : Behaviour) (m : Meaning) (t u : TableData) (v w : b.State) (bs : List ℕ) → Does b m t v (post bs) Answer.done u w
-    → (judged m t (post bs) ≡ Judgement.passes) × (u ≡ begun t.voices (t.rows ++ (decode m bs ∷ []))) × b.empties v w
+    → (judged m t (post bs) ≡ Judgement.passes) × (u ≡ fresh_table t.voices (t.rows ++ (decode m bs ∷ []))) × b.empties v w
 posted_by b m t u v w bs (Does.posts bs' w' j e) = (j, refl, e)
 
 declare_refused : (b : Behaviour) (m : Meaning) (t u : TableData) (v w : b.State) (s n : ℕ) → Does b m t v (declare s) (Answer.refused n) u w
-    → (judged m t (declare s) ≡ Judgement.refused_by n) × (u ≡ t) × (w ≡ v)
+    → (judged m t (declare s) ≡ Judgement.refused_under n) × (u ≡ t) × (w ≡ v)
 declare_refused b m t u v w s n (Does.refuses c n' j) = (j, refl, refl)
 
 post_refused : (b : Behaviour) (m : Meaning) (t u : TableData) (v w : b.State) (bs : List ℕ) (n : ℕ) → Does b m t v (post bs) (Answer.refused n) u w
-    → (judged m t (post bs) ≡ Judgement.refused_by n) × (u ≡ t) × (w ≡ v)
+    → (judged m t (post bs) ≡ Judgement.refused_under n) × (u ≡ t) × (w ≡ v)
 post_refused b m t u v w bs n (Does.refuses c n' j) = (j, refl, refl)
 
 pub at_reading : (b : Behaviour) (m : Meaning) (t u : TableData) (v w : b.State) (i i' : RecordReading) (r : Result (Option ℕ) RecordRefusal) → i' ≡ i → RecordRead b m t v i r u w → RecordRead b m t v i' r u w
 at_reading b m t u v w i i' r e h = subst (λ (x : RecordReading). RecordRead b m t v x r u w) (sym e) h
 
 module _ (b : Behaviour) (m : Meaning) (t u : TableData) (v w : b.State) where
-  pub voice_declared : (s : ℕ) → Does b m t v (declare s) Answer.done u w → RecordRead b m t v (if_passes (judged m (begun t.voices t.rows) (declare s)) (a_voice s)) (Ok (Some 9)) u w
+  pub voice_declared : (s : ℕ) → Does b m t v (declare s) Answer.done u w → RecordRead b m t v (if_passes (judged m (fresh_table t.voices t.rows) (declare s)) (reads_voice s)) (Ok (Some 9)) u w
   voice_declared s D =
       let d = declared_by b m t u v w s D in
-      passed b m t u v w (judged m t (declare s)) (a_voice s) 9 d.0 refl d.1 d.2
+      passed b m t u v w (judged m t (declare s)) (reads_voice s) 9 d.0 refl d.1 d.2
 
   pub voice_refused : (s : ℕ) (r : Result (Option ℕ) RecordRefusal) (refusal : Refusal) → Unsearched t → r ≡ Err (ByTable refusal)
-      → Does b m t v (declare s) (Answer.refused (refusal_number refusal)) u w → RecordRead b m t v (if_passes (judged m (begun t.voices t.rows) (declare s)) (a_voice s)) r u w
+      → Does b m t v (declare s) (Answer.refused (refusal_number refusal)) u w → RecordRead b m t v (if_passes (judged m (fresh_table t.voices t.rows) (declare s)) (reads_voice s)) r u w
   voice_refused s r refusal U e D =
-      turned_down b m t u v w (judged m t (declare s)) (a_voice s) r refusal U e (declare_refused b m t u v w s (refusal_number refusal) D)
+      turned_down b m t u v w (judged m t (declare s)) (reads_voice s) r refusal U e (declare_refused b m t u v w s (refusal_number refusal) D)
 
   pub row_posted : (bs : List ℕ) → Does b m t v (post bs) Answer.done u w
-      → RecordRead b m t v (if_passes (judged m (begun t.voices t.rows) (post bs)) (a_row bs)) (Ok (Some (length bs))) u w
+      → RecordRead b m t v (if_passes (judged m (fresh_table t.voices t.rows) (post bs)) (reads_row bs)) (Ok (Some (length bs))) u w
   row_posted bs D =
       let d = posted_by b m t u v w bs D in
-      passed b m t u v w (judged m t (post bs)) (a_row bs) (length bs) d.0 refl d.1 d.2
+      passed b m t u v w (judged m t (post bs)) (reads_row bs) (length bs) d.0 refl d.1 d.2
 
   pub row_refused : (bs : List ℕ) (r : Result (Option ℕ) RecordRefusal) (refusal : Refusal) → Unsearched t → r ≡ Err (ByTable refusal)
-      → Does b m t v (post bs) (Answer.refused (refusal_number refusal)) u w → RecordRead b m t v (if_passes (judged m (begun t.voices t.rows) (post bs)) (a_row bs)) r u w
+      → Does b m t v (post bs) (Answer.refused (refusal_number refusal)) u w → RecordRead b m t v (if_passes (judged m (fresh_table t.voices t.rows) (post bs)) (reads_row bs)) r u w
   row_refused bs r refusal U e D =
-      turned_down b m t u v w (judged m t (post bs)) (a_row bs) r refusal U e (post_refused b m t u v w bs (refusal_number refusal) D)
+      turned_down b m t u v w (judged m t (post bs)) (reads_row bs) r refusal U e (post_refused b m t u v w bs (refusal_number refusal) D)
 
 -- ---- the records so far
 
@@ -121,12 +121,12 @@ module _ (b : Behaviour) (m : Meaning) (bs : List ℕ) (w : b.State) (t : TableD
   further n u x h = by (read_record m t.voices t.rows (drop at bs)) refl h.answer h.table h.store
     where
       by : (i : RecordReading) → read_record m t.voices t.rows (drop at bs) ≡ i → record_length n ≡ reading_record_answer i → u ≡ record_table m t.voices t.rows i → RecordStored b i v x → Longer b m bs w u x at n
-      by last e f g k = let z : ◌≡◌ {A = ℕ} 0 1 = cc in absurd (omega arith)
-      by (a_voice s) e f g k =
+      by reads_end e f g k = let z : ◌≡◌ {A = ℕ} 0 1 = cc in absurd (omega arith)
+      by (reads_voice s) e f g k =
           let here = voice_here m t.voices t.rows (drop at bs) s e in
-          let rest = on (a_voice s) e in
+          let rest = on (reads_voice s) e in
           let nine : n ≡ 9 = cc in
-          let next : Longer b m bs w (begun (t.voices ++ (s ∷ [])) t.rows) x at 9 =
+          let next : Longer b m bs w (fresh_table (t.voices ++ (s ∷ [])) t.rows) x at 9 =
           record {
             some = omega arith;
             so_far = record {
@@ -142,18 +142,18 @@ module _ (b : Behaviour) (m : Meaning) (bs : List ℕ) (w : b.State) (t : TableD
             };
           } in
           subst (λ (y : ℕ). Longer b m bs w u x at y) (sym nine) (subst (λ (y : TableData). Longer b m bs w y x at 9) (sym g) next)
-      by (a_row r) e f g k =
+      by (reads_row r) e f g k =
           let here = row_here m t.voices t.rows (drop at bs) r e in
-          let rest = on (a_row r) e in
+          let rest = on (reads_row r) e in
           let long : n ≡ length r = cc in
-          let next : Longer b m bs w (begun t.voices (t.rows ++ (decode m r ∷ []))) x at (length r) =
+          let next : Longer b m bs w (fresh_table t.voices (t.rows ++ (decode m r ∷ []))) x at (length r) =
           record {
-            some = some_row m (begun t.voices t.rows) r here.passes;
+            some = some_row m (fresh_table t.voices t.rows) r here.passes;
             so_far = record {
               unsearched = refl;
               inside = omega (arith, S.inside, ap length here.front, length-take (length r) (drop at bs), length-drop at bs);
               bound = rest.0;
-              enough = omega (arith, rest.1, some_row m (begun t.voices t.rows) r here.passes);
+              enough = omega (arith, rest.1, some_row m (fresh_table t.voices t.rows) r here.passes);
               same = ap (read_from m rest.0 (at + length r) t.voices (t.rows ++ (decode m r ∷ []))) (sym (drop-drop (length r) at bs)) ∙ rest.2;
               read = subst (λ (y : List ℕ). ReadSo b m bs w (at + length r) t.voices (t.rows ++ (decode m r ∷ [])) y x) (drop-drop (length r) at bs)
                   (one_row b m bs w at t.voices t.rows (drop at bs) r v x S.read here k);
@@ -162,7 +162,7 @@ module _ (b : Behaviour) (m : Meaning) (bs : List ℕ) (w : b.State) (t : TableD
             };
           } in
           subst (λ (y : ℕ). Longer b m bs w u x at y) (sym long) (subst (λ (y : TableData). Longer b m bs w y x at (length r)) (sym g) next)
-      by (fault k' o l) e f g k = let z : ◌≡◌ {A = ℕ} 0 1 = cc in absurd (omega arith)
+      by (reads_fault k' o l) e f g k = let z : ◌≡◌ {A = ℕ} 0 1 = cc in absurd (omega arith)
 
   pub ended : (u : TableData) (x : b.State) → RecordRead b m t v (read_record m t.voices t.rows (drop at bs)) (Ok None) u x
       → RecordsRead b m bs w u x (read_sheet m bs) (Ok tt)
@@ -170,13 +170,13 @@ module _ (b : Behaviour) (m : Meaning) (bs : List ℕ) (w : b.State) (t : TableD
     where
       by : (i : RecordReading) → read_record m t.voices t.rows (drop at bs) ≡ i → sheet_end ≡ reading_record_answer i → u ≡ record_table m t.voices t.rows i → RecordStored b i v x
           → RecordsRead b m bs w u x (read_sheet m bs) (Ok tt)
-      by last e f g k =
-          let rest = on last e in
+      by reads_end e f g k =
+          let rest = on reads_end e in
           subst (λ (o : SheetReading). RecordsRead b m bs w u x o (Ok tt)) rest.2
           (RecordsRead.ended t.voices t.rows g (subst (Fills b m w t.voices t.rows) (sym k) S.read.fills))
-      by (a_voice s) e f g k = let z : ◌≡◌ {A = ℕ} 0 1 = cc in absurd (omega arith)
-      by (a_row r) e f g k = let z : ◌≡◌ {A = ℕ} 0 1 = cc in absurd (omega arith)
-      by (fault k' o l) e f g k = let z : ◌≡◌ {A = ℕ} 0 1 = cc in absurd (omega arith)
+      by (reads_voice s) e f g k = let z : ◌≡◌ {A = ℕ} 0 1 = cc in absurd (omega arith)
+      by (reads_row r) e f g k = let z : ◌≡◌ {A = ℕ} 0 1 = cc in absurd (omega arith)
+      by (reads_fault k' o l) e f g k = let z : ◌≡◌ {A = ℕ} 0 1 = cc in absurd (omega arith)
 
   pub faulted : Laws m → (cause : RecordRefusal) (place : ℕ) (u : TableData) (x : b.State) → place ≡ at + cause_offset cause
       → RecordRead b m t v (read_record m t.voices t.rows (drop at bs)) (Err cause) u x
@@ -186,12 +186,12 @@ module _ (b : Behaviour) (m : Meaning) (bs : List ℕ) (w : b.State) (t : TableD
       by : (i : RecordReading) → read_record m t.voices t.rows (drop at bs) ≡ i → record_fault (cause_number cause) (cause_offset cause) (cause_layer cause) ≡ reading_record_answer i
           → u ≡ record_table m t.voices t.rows i → RecordStored b i v x
           → RecordsRead b m bs w u x (read_sheet m bs) (Err (record { cause = cause; place = place }))
-      by last e f g k = let z : ◌≡◌ {A = ℕ} 0 1 = cc in absurd (omega arith)
-      by (a_voice s) e f g k = let z : ◌≡◌ {A = ℕ} 0 1 = cc in absurd (omega arith)
-      by (a_row r) e f g k = let z : ◌≡◌ {A = ℕ} 0 1 = cc in absurd (omega arith)
-      by (fault n o y) e f g k =
-          let rest = on (fault n o y) e in
-          let is : fault n o y ≡ fault (cause_number cause) (cause_offset cause) (cause_layer cause) = ap back (sym f) in
+      by reads_end e f g k = let z : ◌≡◌ {A = ℕ} 0 1 = cc in absurd (omega arith)
+      by (reads_voice s) e f g k = let z : ◌≡◌ {A = ℕ} 0 1 = cc in absurd (omega arith)
+      by (reads_row r) e f g k = let z : ◌≡◌ {A = ℕ} 0 1 = cc in absurd (omega arith)
+      by (reads_fault n o y) e f g k =
+          let rest = on (reads_fault n o y) e in
+          let is : reads_fault n o y ≡ reads_fault (cause_number cause) (cause_offset cause) (cause_layer cause) = ap back (sym f) in
           let first = fault_at m L bs at t.voices t.rows (drop at bs) (cause_number cause) (cause_offset cause) (cause_layer cause) S.bare_read (e ∙ is) in
           let here : RecordsRead b m bs w u x (faulty (cause_number cause) (at + cause_offset cause) (cause_layer cause)) (Err (record { cause = cause; place = at + cause_offset cause })) =
           RecordsRead.faulted cause (at + cause_offset cause) first g (subst (Fills b m w t.voices t.rows) (sym k) S.read.fills) in
@@ -200,9 +200,9 @@ module _ (b : Behaviour) (m : Meaning) (bs : List ℕ) (w : b.State) (t : TableD
           subst₂ (λ (o : SheetReading) (q : ℕ). RecordsRead b m bs w u x o (Err (record { cause = cause; place = q }))) come (sym p) here
         where
           back : RecordAnswer → RecordReading
-          back sheet_end = last
-          back (record_length n) = last
-          back (record_fault number offset layer) = fault number offset layer
+          back sheet_end = reads_end
+          back (record_length n) = reads_end
+          back (record_fault number offset layer) = reads_fault number offset layer
 
 -- ---- the same, with the rest of the bytes at hand
 

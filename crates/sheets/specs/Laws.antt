@@ -3,7 +3,7 @@ use Rattle.std.specs.Prelude.{◌≡◌, ℕ, ◌+◌, List, [], ◌∷◌, ◌+
 use Rattle.rows.specs.Rows.{RowData, Meaning}
 use Rattle.rows.specs.Laws.{Laws}
 use Rattle.rows.specs.Bytes.{Bytes, encode}
-use Rattle.search.specs.Calls.{Call, Answer, begun}
+use Rattle.search.specs.Calls.{Call, Answer, fresh_table}
 use Rattle.search.specs.Calls.Call.{declare, post}
 use Rattle.search.specs.Calls.Answer.{done}
 use Rattle.rows.specs.Placed.{AllAccepted}
@@ -15,7 +15,7 @@ use Rattle.sheets.specs.Reading.SheetReading.{accepted, faulty}
 
 -- voices and rows that a table can have: within its limits, and the bank accepts each row
 pub record Holdable (m : Meaning) (voices : List ℕ) (rows : List RowData) : Type 0 where
-  pub limited : Limited m (begun voices rows)
+  pub limited : Limited m (fresh_table voices rows)
   pub all_accepted : AllAccepted m rows (length voices)
 
 -- The first record that is faulty: those before it are the records of voices and rows that a table
@@ -27,7 +27,7 @@ pub record FirstFault (m : Meaning) (bs : List ℕ) (number place : ℕ) (layer 
   pub offset : ℕ
   pub holdable : Holdable m voices rows
   pub before : bs ≡ records voices rows ++ rest
-  pub here : read_record m voices rows rest ≡ RecordReading.fault number offset layer
+  pub here : read_record m voices rows rest ≡ RecordReading.reads_fault number offset layer
   pub placed : place ≡ length (records voices rows) + offset
 
 -- One sheet a table: the sheet of voices and rows that a table can have is accepted, and gives them

@@ -5,7 +5,7 @@ use Rattle.rows.specs.Rows.{RowData, Meaning}
 use Rattle.rows.specs.Bytes.{decode}
 use Rattle.stores.specs.declared.store.Store as store
 use Rattle.stores.specs.Behaviours.{Behaviour}
-use Rattle.search.specs.Calls.{TableData, Call, Answer, begun, empty}
+use Rattle.search.specs.Calls.{TableData, Call, Answer, fresh_table, empty}
 use Rattle.search.specs.Calls.Call.{wipe}
 use Rattle.search.specs.Calls.Answer.{done}
 use Rattle.search.specs.Histories.{History, LeadsTo}
@@ -18,7 +18,7 @@ use Rattle.sheets.specs.declared.refusal.SheetRefusal.{SheetRefusal}
 use Rattle.sheets.specs.Causes.{cause_number, cause_layer, cause_offset}
 use Rattle.sheets.specs.Sheets.{sheet}
 use Rattle.sheets.specs.Reading.{RecordReading, SheetReading, read_sheet}
-use Rattle.sheets.specs.Reading.RecordReading.{last, a_voice, a_row, fault}
+use Rattle.sheets.specs.Reading.RecordReading.{reads_end, reads_voice, reads_row, reads_fault}
 use Rattle.sheets.specs.Reading.SheetReading.{accepted, faulty}
 use Rattle.sheets.specs.Laws.{FirstFault, declared_after, posted_after}
 
@@ -43,7 +43,7 @@ reading_answer (faulty number place layer) = sheet_fault number place layer
 
 -- the table that a Load leaves: its search has not begun; after a refused one it is empty
 abbrev pub table_after : SheetReading → TableData
-table_after (accepted voices rows) = begun voices rows
+table_after (accepted voices rows) = fresh_table voices rows
 table_after (faulty n place layer) = empty
 
 -- After the calls h, over a store that was in the state g when the table was made, the records of a
@@ -119,28 +119,28 @@ record_answer (Ok (Some n)) = record_length n
 record_answer (Err c) = record_fault (cause_number c) (cause_offset c) (cause_layer c)
 
 abbrev pub reading_record_answer : RecordReading → RecordAnswer
-reading_record_answer last = sheet_end
-reading_record_answer (a_voice s) = record_length 9
-reading_record_answer (a_row r) = record_length (length r)
-reading_record_answer (fault number offset layer) = record_fault number offset layer
+reading_record_answer reads_end = sheet_end
+reading_record_answer (reads_voice s) = record_length 9
+reading_record_answer (reads_row r) = record_length (length r)
+reading_record_answer (reads_fault number offset layer) = record_fault number offset layer
 
 -- the table after a record, where it had these voices and rows
 abbrev pub record_table : Meaning → List ℕ → List RowData → RecordReading → TableData
-record_table m voices rows last = begun voices rows
-record_table m voices rows (a_voice s) = begun (voices ++ (s ∷ [])) rows
-record_table m voices rows (a_row r) = begun voices (rows ++ (decode m r ∷ []))
-record_table m voices rows (fault number offset layer) = begun voices rows
+record_table m voices rows reads_end = fresh_table voices rows
+record_table m voices rows (reads_voice s) = fresh_table (voices ++ (s ∷ [])) rows
+record_table m voices rows (reads_row r) = fresh_table voices (rows ++ (decode m r ∷ []))
+record_table m voices rows (reads_fault number offset layer) = fresh_table voices rows
 
 -- a table whose search has not begun
 abbrev pub Unsearched : TableData → Type 0
-Unsearched t = t ≡ begun t.voices t.rows
+Unsearched t = t ≡ fresh_table t.voices t.rows
 
 -- the store after a record: an accepted Declare or Post empties it
 abbrev pub RecordStored : (b : Behaviour) → RecordReading → b.State → b.State → Type 0
-RecordStored b last s r = r ≡ s
-RecordStored b (a_voice x) s r = b.empties s r
-RecordStored b (a_row bs) s r = b.empties s r
-RecordStored b (fault number offset layer) s r = r ≡ s
+RecordStored b reads_end s r = r ≡ s
+RecordStored b (reads_voice x) s r = b.empties s r
+RecordStored b (reads_row bs) s r = b.empties s r
+RecordStored b (reads_fault number offset layer) s r = r ≡ s
 
 -- a record is read: the answer, and the table and the store then
 pub record RecordRead (b : Behaviour) (m : Meaning) (t : TableData) (s : b.State)
@@ -157,16 +157,16 @@ abbrev pub Fills : (b : Behaviour) (m : Meaning) (s : b.State)
     (voices : List ℕ) (rows : List RowData) → b.State → Type 0
 Fills b m s voices rows r =
     (g : b.State) (h : List (Call × Answer)) → LeadsTo b m g h empty s 0
-    → LeadsTo b m g (posted_after (declared_after h voices) rows) (begun voices rows) r 0
+    → LeadsTo b m g (posted_after (declared_after h voices) rows) (fresh_table voices rows) r 0
 
 -- all records are read, up to the sheet's end or its first fault
 pub data RecordsRead (b : Behaviour) (m : Meaning) (bytes : List ℕ) (s : b.State)
     (u : TableData) (r : b.State) : SheetReading → Result Unit SheetRefusal → Type 0 where
-  ended : (voices : List ℕ) (rows : List RowData) → u ≡ begun voices rows
+  ended : (voices : List ℕ) (rows : List RowData) → u ≡ fresh_table voices rows
       → Fills b m s voices rows r → RecordsRead b m bytes s u r (accepted voices rows) (Ok tt)
   faulted : (cause : RecordRefusal) (place : ℕ)
       (first : FirstFault m bytes (cause_number cause) place (cause_layer cause))
-      → u ≡ begun first.voices first.rows
+      → u ≡ fresh_table first.voices first.rows
       → Fills b m s first.voices first.rows r
       → RecordsRead b m bytes s u r (faulty (cause_number cause) place (cause_layer cause))
       (Err (record { cause = cause; place = place }))

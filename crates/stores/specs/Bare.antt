@@ -21,7 +21,7 @@ never_fits (suc n) = and_right (ltb 0 (suc n)) (leb (suc n) 0) (lt-leb (suc n) 0
 pub bare_keeps_lawfully : (s t : Unit {0}) (k : List ℕ) (a : Stored) → bare_keeps s k a t
     → Keeps nothing k a nothing
 bare_keeps_lawfully s t k Lost h =
-    Keeps.no_space nothing refl (never_fits (length k)) (λ x e. absurd cc) (λ e. refl) (λ e. refl)
+    Keeps.does_not_fit nothing refl (never_fits (length k)) (λ x e. absurd cc) (λ e. refl) (λ e. refl)
 bare_keeps_lawfully s t k Kept h = absurd cc
 
 -- it has one state

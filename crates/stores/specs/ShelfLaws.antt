@@ -46,7 +46,7 @@ keeps_by s k true room m f = Keeps.held_already m
 keeps_by s k false true m f =
     Keeps.joins (shelf_view (record { held = s.held ++ (k ∷ []); room = s.room })) m f
     (record { holds = λ x. held_push x k s.held; count = length-append s.held (k ∷ []); distinct = distinct_push k s.held m })
-keeps_by s k false false m f = Keeps.no_space (shelf_view s) m f (λ x h. or_right (same x k) (is_held x s.held) h) (λ h. h) (λ _. refl)
+keeps_by s k false false m f = Keeps.does_not_fit (shelf_view s) m f (λ x h. or_right (same x k) (is_held x s.held) h) (λ h. h) (λ _. refl)
 
 pub shelf_keeps_lawfully : (s t : ShelfState) (k : List ℕ) (a : Stored) → (a ≡ shelf_answer s k) × (t ≡ shelf_after s k) → Keeps (shelf_view s) k a (shelf_view t)
 shelf_keeps_lawfully s t k a h =

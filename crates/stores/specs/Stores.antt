@@ -43,7 +43,7 @@ pub data Keeps (v : View) (k : List ℕ) : Stored → View → Type 0 where
       → Joined v k w → Keeps v k Kept w
   -- it does not fit: what is held is part of the old keys and the new one; a key of no words alters
   -- nothing
-  no_space : (w : View) → is_held k v.held ≡ false → fits_space (length k) v.space ≡ false
+  does_not_fit : (w : View) → is_held k v.held ≡ false → fits_space (length k) v.space ≡ false
       → ((x : List ℕ) → is_held x w.held ≡ true → (same x k || is_held x v.held) ≡ true)
       → (distinct_keys v.held ≡ true → distinct_keys w.held ≡ true) → (length k ≡ 0 → w ≡ v)
       → Keeps v k Lost w

@@ -6,7 +6,7 @@ use Rattle.stores.specs.Behaviours.{Behaviour}
 use Rattle.search.specs.Search.{Level, Status, BacksUp}
 use Rattle.stores.specs.declared.store.Stored.{Stored}
 use Rattle.stores.specs.declared.store.Stored.TheVariants.{Kept, Lost}
-use Rattle.table.specs.Levels.{is_none, is_spent, newest_sets, without_newest, status_backed_up, Backed}
+use Rattle.table.specs.Levels.{no_levels, is_spent, newest_sets, without_newest, status_backed_up, Backed}
 
 -- so many levels are exhausted, and what follows below the levels ls follows below those at the start
 pub record Behind (st : Behaviour) (m : Meaning) (rows : List RowData) (start : List Level) (v : st.State) (ls : List Level) (w : st.State) (n : ℕ) : Type 0 where
@@ -34,14 +34,14 @@ module _ (st : Behaviour) (m : Meaning) (rows : List RowData) where
   behind_more start v (l ∷ ls) w x i k r z e h b = more start v l ls w x i k r e z h b
 
   stops : (ls : List Level) (w : st.State) → is_spent ls ≡ false → BacksUp st m rows ls w (status_backed_up ls) w 0 0
-  stops [] w z = BacksUp.at_root w
-  stops (l ∷ ls) w z = BacksUp.goes_on l ls w z
+  stops [] w z = BacksUp.root_failed w
+  stops (l ∷ ls) w z = BacksUp.value_left l ls w z
 
   -- no level is left, or the newest has a value left to try
   pub backed : (start : List Level) (v : st.State) (ls : List Level) (w : st.State) (n : ℕ) → is_spent ls ≡ false → Behind st m rows start v ls w n → Backed st m rows start v ls w n
   backed start v ls w n z b = record { lost = b.lost; backs = recount (omega arith) (omega arith) (b.carry (status_backed_up ls) w 0 0 (stops ls w z)) }
 
 -- a level is there
-pub there : (ls : List Level) → is_spent ls ≡ true → is_none ls ≡ false
+pub there : (ls : List Level) → is_spent ls ≡ true → no_levels ls ≡ false
 there [] z = cc
 there (l ∷ ls) z = refl

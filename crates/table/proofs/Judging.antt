@@ -10,9 +10,9 @@ use Rattle.search.specs.Search.{Status}
 use Rattle.rows.specs.Reasons.{judge}
 use Rattle.search.specs.Calls.{TableData, judged, over, is_found, result}
 use Rattle.search.specs.Calls.Call.{declare, solve, read}
-use Rattle.rows.specs.Reasons.Judgement.{passes, refused_by}
+use Rattle.rows.specs.Reasons.Judgement.{passes, refused_under}
 
-pub judge_here : (n : ℕ) (f : Bool) (rs : List (ℕ × Bool)) → f ≡ true → judge ((n, f) ∷ rs) ≡ refused_by n
+pub judge_here : (n : ℕ) (f : Bool) (rs : List (ℕ × Bool)) → f ≡ true → judge ((n, f) ∷ rs) ≡ refused_under n
 judge_here n f rs e = ap (λ (b : Bool). judge ((n, b) ∷ rs)) e
 
 pub judge_next : (n : ℕ) (f : Bool) (rs : List (ℕ × Bool)) → f ≡ false → judge ((n, f) ∷ rs) ≡ judge rs
@@ -20,10 +20,10 @@ judge_next n f rs e = ap (λ (b : Bool). judge ((n, b) ∷ rs)) e
 
 -- ---- Declare
 
-pub empty_set : (m : Meaning) (t : TableData) (s : ℕ) → s ≡ 0 → judged m t (declare s) ≡ refused_by 10
+pub empty_set : (m : Meaning) (t : TableData) (s : ℕ) → s ≡ 0 → judged m t (declare s) ≡ refused_under 10
 empty_set m t s e = judge_here 10 (eqb s 0) ((11, leb MOST_VOICES (length t.voices)) ∷ []) (eq-eqb s 0 e)
 
-pub voices_full : (m : Meaning) (t : TableData) (s : ℕ) → (s ≡ 0 → ⊥) → MOST_VOICES ≤ length t.voices → judged m t (declare s) ≡ refused_by 11
+pub voices_full : (m : Meaning) (t : TableData) (s : ℕ) → (s ≡ 0 → ⊥) → MOST_VOICES ≤ length t.voices → judged m t (declare s) ≡ refused_under 11
 voices_full m t s e h =
     judge_next 10 (eqb s 0) ((11, leb MOST_VOICES (length t.voices)) ∷ []) (ne_eqb s 0 e)
     ∙ judge_here 11 (leb MOST_VOICES (length t.voices)) [] (le-leb MOST_VOICES (length t.voices) h)
@@ -38,7 +38,7 @@ voice_fits m t s e h =
 spent : TableData → ℕ → Bool
 spent t b = not (over t.status) && ltb MOST_OPENED (t.opened + b)
 
-pub budget_range : (m : Meaning) (t : TableData) (b : ℕ) → (b ≡ 0) ⊎ ((b ≡ 0 → ⊥) × (MOST_BUDGET < b)) → judged m t (solve b) ≡ refused_by 13
+pub budget_range : (m : Meaning) (t : TableData) (b : ℕ) → (b ≡ 0) ⊎ ((b ≡ 0 → ⊥) × (MOST_BUDGET < b)) → judged m t (solve b) ≡ refused_under 13
 unfolding spent
 budget_range m t b (inl e) = judge_here 13 (eqb b 0 || ltb MOST_BUDGET b) ((14, spent t b) ∷ []) (or_left (eqb b 0) (ltb MOST_BUDGET b) (eq-eqb b 0 e))
 budget_range m t b (inr h) = judge_here 13 (eqb b 0 || ltb MOST_BUDGET b) ((14, spent t b) ∷ []) (or_right (eqb b 0) (ltb MOST_BUDGET b) (lt-ltb MOST_BUDGET b h.1))
@@ -51,7 +51,7 @@ pub over_passes : (m : Meaning) (t : TableData) (b : ℕ) → (b ≡ 0 → ⊥) 
 unfolding spent
 over_passes m t b n h e = in_range m t b n h ∙ judge_next 14 (spent t b) [] (and_left (not (over t.status)) (ltb MOST_OPENED (t.opened + b)) (not_from_true (over t.status) e))
 
-pub nodes_spent : (m : Meaning) (t : TableData) (b : ℕ) → (b ≡ 0 → ⊥) → b ≤ MOST_BUDGET → over t.status ≡ false → MOST_OPENED < t.opened + b → judged m t (solve b) ≡ refused_by 14
+pub nodes_spent : (m : Meaning) (t : TableData) (b : ℕ) → (b ≡ 0 → ⊥) → b ≤ MOST_BUDGET → over t.status ≡ false → MOST_OPENED < t.opened + b → judged m t (solve b) ≡ refused_under 14
 unfolding spent
 nodes_spent m t b n h e k =
     in_range m t b n h
@@ -63,18 +63,18 @@ budget_fits m t b n h k = in_range m t b n h ∙ judge_next 14 (spent t b) [] (a
 
 -- ---- Read
 
-pub nothing_found : (m : Meaning) (t : TableData) (buffer : List ℕ) → is_found t.status ≡ false → judged m t (read buffer) ≡ refused_by 15
+pub nothing_found : (m : Meaning) (t : TableData) (buffer : List ℕ) → is_found t.status ≡ false → judged m t (read buffer) ≡ refused_under 15
 nothing_found m t buffer e =
     judge_here 15 (not (is_found t.status)) ((16, ltb (length buffer) (length (result t.status))) ∷ []) (not_from_false (is_found t.status) e)
 
-when_found : (m : Meaning) (t : TableData) (sets buffer : List ℕ) (b : Bool) → t.status ≡ Status.solved (values sets) → ltb (length buffer) (length sets) ≡ b → judged m t (read buffer) ≡ judge ((16, b) ∷ [])
+when_found : (m : Meaning) (t : TableData) (sets buffer : List ℕ) (b : Bool) → t.status ≡ Status.satisfied (values sets) → ltb (length buffer) (length sets) ≡ b → judged m t (read buffer) ≡ judge ((16, b) ∷ [])
 when_found m t sets buffer b e f =
     ap (λ (p : Status). judge ((15, not (is_found p)) ∷ ((16, ltb (length buffer) (length (result p))) ∷ []))) e
     ∙ ap (λ (n : ℕ). judge ((16, ltb (length buffer) n) ∷ [])) (length-map sets least)
     ∙ ap (λ (x : Bool). judge ((16, x) ∷ [])) f
 
-pub short_buffer : (m : Meaning) (t : TableData) (sets buffer : List ℕ) → t.status ≡ Status.solved (values sets) → length buffer < length sets → judged m t (read buffer) ≡ refused_by 16
+pub short_buffer : (m : Meaning) (t : TableData) (sets buffer : List ℕ) → t.status ≡ Status.satisfied (values sets) → length buffer < length sets → judged m t (read buffer) ≡ refused_under 16
 short_buffer m t sets buffer e h = when_found m t sets buffer true e (lt-ltb (length buffer) (length sets) h)
 
-pub buffer_fits : (m : Meaning) (t : TableData) (sets buffer : List ℕ) → t.status ≡ Status.solved (values sets) → length sets ≤ length buffer → judged m t (read buffer) ≡ passes
+pub buffer_fits : (m : Meaning) (t : TableData) (sets buffer : List ℕ) → t.status ≡ Status.satisfied (values sets) → length sets ≤ length buffer → judged m t (read buffer) ≡ passes
 buffer_fits m t sets buffer e h = when_found m t sets buffer false e (le-ltb (length buffer) (length sets) h)

@@ -5,21 +5,21 @@ use Rattle.std.proofs.lemmas.Bool.{cases_lt, ne_eqb, eqb-false}
 use Rattle.sets.specs.Sets.{least, only}
 use Rattle.search.specs.Search.{Level, below}
 use Rattle.table.specs.declared.engine.level.LevelRecord.{LevelRecord}
-use Rattle.table.specs.Levels.{no_record, level_at, first_levels, levels_at, is_none, is_spent, newest_sets, without_newest, next_sets, next_levels, Voiced}
+use Rattle.table.specs.Levels.{no_record, level_at, first_levels, levels_at, no_levels, is_spent, newest_sets, without_newest, next_sets, next_levels, Voiced}
 
 -- ---- a stack with no level, and one with some
 
-first_none : (n : ℕ) (trail : List ℕ) (records : List LevelRecord) (d : ℕ) → is_none (first_levels n trail records d) ≡ eqb d 0
+first_none : (n : ℕ) (trail : List ℕ) (records : List LevelRecord) (d : ℕ) → no_levels (first_levels n trail records d) ≡ eqb d 0
 first_none n trail records zero = refl
 first_none n trail records (suc d) = sym (ne_eqb (suc d) 0 (λ e. omega arith))
 
-pub none_is : (n : ℕ) (trail : List ℕ) (records : List LevelRecord) → is_none (levels_at n trail records) ≡ eqb (length records) 0
+pub none_is : (n : ℕ) (trail : List ℕ) (records : List LevelRecord) → no_levels (levels_at n trail records) ≡ eqb (length records) 0
 none_is n trail records = first_none n trail records (length records)
 
 pub levels_none : (n : ℕ) (trail : List ℕ) (records : List LevelRecord) → length records ≡ 0 → levels_at n trail records ≡ []
 levels_none n trail records e = ap (first_levels n trail records) e
 
-pub some_from : (n : ℕ) (trail : List ℕ) (records : List LevelRecord) → is_none (levels_at n trail records) ≡ false → 0 < length records
+pub some_from : (n : ℕ) (trail : List ℕ) (records : List LevelRecord) → no_levels (levels_at n trail records) ≡ false → 0 < length records
 some_from n trail records e = omega (arith, eqb-false (length records) 0 (sym (none_is n trail records) ∙ e))
 
 -- the levels by the newest record

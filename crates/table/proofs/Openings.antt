@@ -14,7 +14,7 @@ use Rattle.search.specs.Search.Node.{dead, solution, hit, branch}
 use Rattle.table.specs.declared.engine.level.End.{End}
 use Rattle.table.specs.declared.engine.level.End.TheVariants.{Found, Exhausted}
 use Rattle.table.specs.Levels.{next_levels, status_backed_up, Backed}
-use Rattle.table.specs.Statuses.{status_of}
+use Rattle.table.specs.Statuses.{status_at}
 use Rattle.table.specs.Nodes.{node_of}
 use Rattle.table.specs.declared.engine.node.NodeClass as code
 use Rattle.table.specs.declared.engine.node.NodeClass.TheVariants.{Dead, Hit}
@@ -107,7 +107,7 @@ pub record Opened (st : Behaviour) (m : Meaning) (rows : List RowData) (s : List
   pub lost : ℕ
   pub opens : Opens st m rows s ls v p w n lost
 
-status_spent : (w : List ℕ) (ls : List Level) → status_backed_up ls ≡ status_of Exhausted w ls
+status_spent : (w : List ℕ) (ls : List Level) → status_backed_up ls ≡ status_at Exhausted w ls
 status_spent w [] = refl
 status_spent w (l ∷ ls) = refl
 
@@ -135,20 +135,20 @@ module _ (st : Behaviour) (m : Meaning) (rows : List RowData) (s t : List ℕ) (
   opens_failed (branch l) p w n j f h b = absurd f
 
   pub opened_failed : (x : Node) (under : List Level) (w : st.State) (rest : List Level) (y : List ℕ) (n : ℕ) → Fails x → t ≡ propagated m rows s → k ≡ below (next_levels ls) → node m rows (st.view v) k t ≡ x
-      → under ≡ next_levels ls → Backed st m rows under v rest w n → Opened st m rows s (next_levels ls) v (status_of Exhausted y rest) w n
+      → under ≡ next_levels ls → Backed st m rows under v rest w n → Opened st m rows s (next_levels ls) v (status_at Exhausted y rest) w n
   opened_failed x under w rest y n f e g h q b =
       let c : Backed st m rows (next_levels ls) v rest w n = subst (λ a. Backed st m rows a v rest w n) q b in
       record { lost = c.lost; opens = subst (λ p. Opens st m rows s (next_levels ls) v p w n c.lost) (status_spent y rest) (opens_failed x (status_backed_up rest) w n c.lost f (at_node e g h) c.backs) }
 
   pub opened_solution : (rest : List Level) (y : List ℕ) → t ≡ propagated m rows s → k ≡ below (next_levels ls) → node m rows (st.view v) k t ≡ solution (values t) → rest ≡ [] → y ≡ t
-      → Opened st m rows s (next_levels ls) v (status_of Found y rest) v 0
+      → Opened st m rows s (next_levels ls) v (status_at Found y rest) v 0
   opened_solution rest y e g h q z =
-      subst (λ a. Opened st m rows s (next_levels ls) v (status_of Found y a) v 0) (sym q)
-      (subst (λ a. Opened st m rows s (next_levels ls) v (status_of Found a []) v 0) (sym z)
+      subst (λ a. Opened st m rows s (next_levels ls) v (status_at Found y a) v 0) (sym q)
+      (subst (λ a. Opened st m rows s (next_levels ls) v (status_at Found a []) v 0) (sym z)
       (record { lost = 0; opens = Opens.finds (values t) (at_node e g h) }))
 
   pub opened_branch : (l : Level) (rest : List Level) (z : End) (y : List ℕ) → t ≡ propagated m rows s → k ≡ below (next_levels ls) → node m rows (st.view v) k t ≡ branch l → rest ≡ l ∷ next_levels ls
-      → Opened st m rows s (next_levels ls) v (status_of z y rest) v 0
+      → Opened st m rows s (next_levels ls) v (status_at z y rest) v 0
   opened_branch l rest z y e g h q =
-      subst (λ r. Opened st m rows s (next_levels ls) v (status_of z y r) v 0) (sym q)
+      subst (λ r. Opened st m rows s (next_levels ls) v (status_at z y r) v 0) (sym q)
       (record { lost = 0; opens = Opens.branches l (at_node e g h) })

@@ -14,10 +14,10 @@ use Rattle.rows.specs.Reading.{checked, of_kind, row_verdict, row_after}
 use Rattle.rows.proofs.Layouts.{bytes_both_ways}
 use Rattle.rows.proofs.Readings.{layout_right}
 use Rattle.rows.specs.declared.limits.TheConstants.{MOST_ROWS, MOST_BYTES}
-use Rattle.rows.specs.Reasons.{judge, refused_under}
+use Rattle.rows.specs.Reasons.{judge, kind_refuses}
 use Rattle.search.specs.Calls.{TableData, judged}
 use Rattle.search.specs.Calls.Call.{post}
-use Rattle.rows.specs.Reasons.Judgement.{passes, refused_by}
+use Rattle.rows.specs.Reasons.Judgement.{passes, refused_under}
 
 -- ---- the refusals
 
@@ -27,7 +27,7 @@ answered a b c d x = checked a UnknownLetter (checked b BadCount (checked c Wron
 
 abbrev tests : Bool → Bool → Bool → Bool → Verdict → Bool → List (ℕ × Bool)
 tests a b c d x full =
-    (2, not a) ∷ (5, not b) ∷ (6, not c) ∷ (7, not d) ∷ (8, refused_under 8 x) ∷ (9, refused_under 9 x) ∷ (12, full) ∷ []
+    (2, not a) ∷ (5, not b) ∷ (6, not c) ∷ (7, not d) ∷ (8, kind_refuses 8 x) ∷ (9, kind_refuses 9 x) ∷ (12, full) ∷ []
 
 abbrev pub Answered : Type 0
 Answered = Result (Unit {0}) RowRefusal
@@ -38,10 +38,10 @@ fault f = Err f
 never : {A : Type 0} (f : RowRefusal) (x : Unit {0}) → fault f ≡ Ok x → A
 never f x e = let z : ◌≡◌ {A = ℕ} 0 1 = cc in absurd (omega arith)
 
-under : (f k : RowRefusal) → fault f ≡ fault k → refused_by (row_number k) ≡ refused_by (row_number f)
-under f k e = let p : k ≡ f = cc in ap (λ (x : RowRefusal). refused_by (row_number x)) p
+under : (f k : RowRefusal) → fault f ≡ fault k → refused_under (row_number k) ≡ refused_under (row_number f)
+under f k e = let p : k ≡ f = cc in ap (λ (x : RowRefusal). refused_under (row_number x)) p
 
-faulty : (a b c d : Bool) (x : Verdict) (full : Bool) (f : RowRefusal) → fault f ≡ answered a b c d x → judge (tests a b c d x full) ≡ refused_by (row_number f)
+faulty : (a b c d : Bool) (x : Verdict) (full : Bool) (f : RowRefusal) → fault f ≡ answered a b c d x → judge (tests a b c d x full) ≡ refused_under (row_number f)
 faulty false b c d x full f e = under f UnknownLetter e
 faulty true false c d x full f e = under f BadCount e
 faulty true true false d x full f e = under f WrongLength e
@@ -78,11 +78,11 @@ abbrev pub full_for : List RowData → ℕ → Bool
 full_for rows bytes = leb MOST_ROWS (length rows) || ltb MOST_BYTES (total_bytes rows + bytes)
 
 module _ (m : Meaning) (t : TableData) (bs : List ℕ) where
-  pub bytes_refused : (f : RowRefusal) → fault f ≡ row_verdict m bs (length t.voices) → judged m t (post bs) ≡ refused_by (row_number f)
+  pub bytes_refused : (f : RowRefusal) → fault f ≡ row_verdict m bs (length t.voices) → judged m t (post bs) ≡ refused_under (row_number f)
   bytes_refused f e =
       faulty (lettered m bs) (counted bs) (right_length m bs) (marked (drop (head_length m bs) bs)) (m.accepts (decode m bs) (length t.voices)) (full_for t.rows (length bs)) f e
 
-  pub rows_full : (y : Unit {0}) → Ok y ≡ row_verdict m bs (length t.voices) → full_for t.rows (length bs) ≡ true → judged m t (post bs) ≡ refused_by 12
+  pub rows_full : (y : Unit {0}) → Ok y ≡ row_verdict m bs (length t.voices) → full_for t.rows (length bs) ≡ true → judged m t (post bs) ≡ refused_under 12
   rows_full y e h =
       faultless (lettered m bs) (counted bs) (right_length m bs) (marked (drop (head_length m bs) bs)) (m.accepts (decode m bs) (length t.voices)) (full_for t.rows (length bs)) y e
       ∙ ap (λ (b : Bool). judge ((12, b) ∷ [])) h

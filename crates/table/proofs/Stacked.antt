@@ -5,7 +5,7 @@ use Rattle.std.proofs.lemmas.Nat.{mul-le}
 use Rattle.search.specs.Search.{below}
 use Rattle.table.specs.declared.engine.level.LevelRecord.{LevelRecord}
 use Rattle.table.specs.declared.engine.levels.Levels.{Levels}
-use Rattle.table.specs.Levels.{no_record, is_none, next_levels, levels_at}
+use Rattle.table.specs.Levels.{no_record, no_levels, next_levels, levels_at}
 use Rattle.table.specs.Stacks.{levels_in}
 use Rattle.table.proofs.Leveled.{some_from, place_of_newest, deep_below, record_taken, levels_tried}
 
@@ -14,10 +14,10 @@ pub whole_trail : (l : Levels) → length l.trail.items ≡ length l.records.ite
 whole_trail l = sym l.trail.ok.0 ∙ l.whole ∙ ap (λ (n : ℕ). n * l.width) l.records.ok.0
 
 -- where there is a level, its sets are there
-pub some_records : (l : Levels) → is_none (levels_in l) ≡ false → 0 < length l.records.items
+pub some_records : (l : Levels) → no_levels (levels_in l) ≡ false → 0 < length l.records.items
 some_records l e = some_from l.width l.trail.items l.records.items e
 
-pub below_newest : (l : Levels) → is_none (levels_in l) ≡ false → (l.records.len - 1) * l.width + l.width ≡ l.trail.len
+pub below_newest : (l : Levels) → no_levels (levels_in l) ≡ false → (l.records.len - 1) * l.width + l.width ≡ l.trail.len
 below_newest l e = place_of_newest l.width l.records.len l.trail.len l.whole (omega (arith, some_records l e, l.records.ok.0))
 
 -- room for one level more, which branches on a voice that is not fixed

@@ -5,7 +5,7 @@ use Rattle.rows.specs.Rows.{RowData, Meaning}
 use Rattle.stores.specs.Behaviours.{Behaviour}
 use Rattle.stores.specs.declared.store.Stored.{Stored}
 use Rattle.search.specs.Search.{Level, Status, BacksUp, child, taken}
-use Rattle.search.specs.Search.Status.{going, unsolvable}
+use Rattle.search.specs.Search.Status.{going, unsatisfiable}
 use Rattle.table.specs.declared.engine.level.LevelRecord.{LevelRecord}
 
 -- what is read past the last record
@@ -39,9 +39,9 @@ Voiced n records =
 -- ---- what is done with levels, newest first
 
 -- there is none
-abbrev pub is_none : List Level → Bool
-is_none [] = true
-is_none (l ∷ ls) = false
+abbrev pub no_levels : List Level → Bool
+no_levels [] = true
+no_levels (l ∷ ls) = false
 
 -- there is one, and the newest has no value left to try
 abbrev pub is_spent : List Level → Bool
@@ -69,7 +69,7 @@ next_levels (l ∷ ls) = taken l ∷ ls
 
 -- the status of a search that has backed up to these levels
 abbrev pub status_backed_up : List Level → Status
-status_backed_up [] = unsolvable
+status_backed_up [] = unsatisfiable
 status_backed_up (l ∷ ls) = going l ls
 
 -- the state that a store may be in once the key was given to it, whatever it answered

@@ -7,7 +7,7 @@ use Rattle.stores.specs.declared.store.Store as store
 use Rattle.search.specs.Calls as calls
 use Rattle.search.specs.Calls.{Call, Answer, Does, result}
 use Rattle.search.specs.Histories.{History}
-use Rattle.table.specs.Searches.{status_in, table_of}
+use Rattle.table.specs.Searches.{status_of, table_of}
 use Rattle.table.specs.declared.outcome.Outcome.{Outcome}
 use Rattle.table.specs.declared.outcome.Outcome.TheVariants.{Stopped, Found, None}
 use Rattle.table.specs.declared.refusal.Refusal.{Refusal}
@@ -30,7 +30,7 @@ module _ {B S : Type 0} {b : bank.Ghosts B} {s : store.Ghosts S} where
 
   -- the values that it has found
   abbrev pub found_in : Table B S b s → List ℕ
-  found_in t = result (status_in t.search)
+  found_in t = result (status_of t.search)
 
   -- ---- a call takes the table t with its store to the table u with its store
 

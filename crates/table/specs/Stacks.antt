@@ -11,4 +11,4 @@ levels_in l = levels_at l.width (vec_items l.trail) (vec_items l.records)
 -- no levels; those to come have n sets
 pub record Cleared (n : ℕ) (l : Levels) : Type 0 where
   pub width : l.width ≡ n
-  pub level_none : levels_in l ≡ []
+  pub no_level : levels_in l ≡ []

@@ -155,7 +155,7 @@ impl<B: Bank, S: Store> Table<B, S> {
         self.store.clear();
     }
 
-    /// Searches on from where the search is, until it is over or `budget` nodes are opened. What was found is read by
+    /// Goes on with the search until it is over or `budget` nodes are opened. What was found is read by
     /// `read`. Where the search is over already, it opens no node and returns the same outcome again.
     ///
     /// Refused where the budget is not 1 to 1,000,000, and where the search could open more nodes than it may.

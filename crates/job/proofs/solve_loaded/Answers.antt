@@ -2,7 +2,7 @@ use Rattle.std.proofs.Common.{Ok, sym, ap, ◌∙◌, subst}
 use Rattle.table.specs.Shown.{model, store_in, found_in}
 use Rattle.sheets.specs.Reading.{read_sheet}
 use Rattle.sheets.specs.Loading.{load_answer}
-use Rattle.job.specs.Planned.{SheetSolved}
+use Rattle.job.specs.Planned.{JobDone}
 use Rattle.job.proofs.Jobs.{sheet_solved}
 use Rattle.job.proofs.solve_loaded.Goals as goal
 
@@ -14,4 +14,4 @@ returns g c = λ given sheet value leaves.
     let u = c.solve.new.self in
     let done = sheet_solved st m g.met.B.Bank.lawful given sheet (read_sheet m sheet) (model t) (model u) (store_in t) (store_in u) c.solve.result (found_in u)
     (sym (ap load_answer c.in_ok-answer.was) ∙ value) leaves.table leaves.history c.solve.ensures.does in
-    subst (λ o. SheetSolved st m given sheet (read_sheet m sheet) (Ok o) (model u) (store_in u)) (sym c.unwrap_or.ensures) done
+    subst (λ o. JobDone st m given sheet (read_sheet m sheet) (Ok o) (model u) (store_in u)) (sym c.unwrap_or.ensures) done

@@ -3,7 +3,7 @@ ghost use Rattle.std.specs.Prelude.{◌≡◌, ◌+◌, ◌*◌, ◌<◌, ◌≤
 ghost use Rattle.sets.specs.Placings.{Proper};
 ghost use Rattle.rows.specs.Views.{rows_of};
 ghost use Rattle.search.specs.Search.{below};
-ghost use Rattle.table.specs.Levels.{Voiced, Backed, is_none, is_spent, newest_sets, without_newest, next_sets, next_levels};
+ghost use Rattle.table.specs.Levels.{Voiced, Backed, no_levels, is_spent, newest_sets, without_newest, next_sets, next_levels};
 ghost use Rattle.rows.specs.declared.limits.TheConstants.{MOST_VOICES};
 
 use crate::engine::keys::KeyBuffer;
@@ -73,7 +73,7 @@ impl Levels {
 
     // Whether there is no level.
     pub(crate) fn is_empty(&self) -> bool
-        ensures { result ≡ is_none (levels_in self.now) }
+        ensures { result ≡ no_levels (levels_in self.now) }
     {
         self.records.is_empty()
     }
@@ -98,7 +98,7 @@ impl Levels {
 
     // The sets of the newest level.
     pub(crate) fn newest_sets(&self) -> &[ValueSet]
-        requires { is_none (levels_in self.now) ≡ false }
+        requires { no_levels (levels_in self.now) ≡ false }
         ensures value { result.now ≡ newest_sets (levels_in self.now) }
         ensures width { length result.now ≡ self.now.width }
     {
@@ -127,7 +127,7 @@ impl Levels {
 
     // Drops the newest level.
     pub(crate) fn pop(&mut self)
-        requires { is_none (levels_in self.old) ≡ false }
+        requires { no_levels (levels_in self.old) ≡ false }
         ensures width { self.new.width ≡ self.old.width }
         ensures count { vec_len self.new.records + 1 ≡ vec_len self.old.records }
         ensures list { levels_in self.new ≡ without_newest (levels_in self.old) }

@@ -42,11 +42,11 @@ pub(crate) struct Search {
 
 // Each method says that there are as many voices as before, which no ghost field can say.
 impl Search {
-    ghost use Rattle.table.specs.Searches.{Begun, voice_count, node_sets, status_in, outcome_of, table_of, Ran, Runs};
+    ghost use Rattle.table.specs.Searches.{FreshSearch, voice_count, node_sets, status_of, outcome_of, table_of, NodesRun, BudgetRun};
 
     // A search with no voices that has not begun.
     pub(crate) fn new(heap: Global) -> Result<Search, AllocError>
-        ensures { IfOk result (λ s. Begun 0 s) }
+        ensures { IfOk result (λ s. FreshSearch 0 s) }
     {
         let sets = Vec::with_capacity(heap, MOST_VOICES)?;
         let keys = KeyBuffer::new(heap)?;
@@ -64,7 +64,7 @@ impl Search {
     // The search begins again, for so many voices.
     pub(crate) fn restart(&mut self, voices: usize)
         requires { voices ≤ MOST_VOICES }
-        ensures { Begun voices self.new }
+        ensures { FreshSearch voices self.new }
     {
         // there is room, so that this allocates nothing and cannot fail
         let _ = self.sets.resize(voices, 0);
@@ -76,7 +76,7 @@ impl Search {
 
     // What the search has come to.
     pub(crate) fn outcome(&self) -> Outcome
-        ensures { result ≡ outcome_of (status_in self.now) }
+        ensures { result ≡ outcome_of (status_of self.now) }
     {
         if !self.levels.is_empty() {
             return Outcome::Stopped;
@@ -90,7 +90,7 @@ impl Search {
 
     // Whether the search is over.
     pub(crate) fn is_over(&self) -> bool
-        ensures { result ≡ over (status_in self.now) }
+        ensures { result ≡ over (status_of self.now) }
     {
         self.levels.is_empty() && matches!(self.end, End::Found | End::Exhausted)
     }
@@ -118,12 +118,12 @@ impl Search {
 
     // Opens the root, or the next child of the newest level.
     fn step<B: Bank, S: Store>(&mut self, rows: &[Row], voices: &[ValueSet], store: &mut S)
-        requires open { over (status_in self.old) ≡ false }
+        requires open { over (status_of self.old) ≡ false }
         requires voices { length voices.now ≡ voice_count self.old }
         requires rows { length rows.now ≤ MOST_ROWS }
         requires few { self.old.opened < MOST_OPENED }
         requires ready { Ready B.Bank.meaning (rows_of rows.now) voices.now }
-        ensures goes { Ran S.Store.behaviour B.Bank.meaning 1
+        ensures goes { NodesRun S.Store.behaviour B.Bank.meaning 1
             (table_of voices.now (rows_of rows.now) self.old) (S.Store.state store.old)
             (table_of voices.now (rows_of rows.now) self.new) (S.Store.state store.new) }
         ensures voices { voice_count self.new ≡ voice_count self.old }
@@ -158,7 +158,7 @@ impl Search {
         requires rows { length rows.now ≤ MOST_ROWS }
         requires few { self.old.opened + budget ≤ MOST_OPENED }
         requires ready { Ready B.Bank.meaning (rows_of rows.now) voices.now }
-        ensures runs { Runs S.Store.behaviour B.Bank.meaning budget
+        ensures runs { BudgetRun S.Store.behaviour B.Bank.meaning budget
             (table_of voices.now (rows_of rows.now) self.old) (S.Store.state store.old)
             (table_of voices.now (rows_of rows.now) self.new) (S.Store.state store.new) }
         ensures voices { voice_count self.new ≡ voice_count self.old }

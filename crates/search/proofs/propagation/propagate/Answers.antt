@@ -3,7 +3,7 @@ use Rattle.std.proofs.lemmas.List.{at_drop_all}
 use Rattle.rows.specs.Views.{rows_of}
 use Rattle.search.specs.Propagation.{rounds}
 use Rattle.search.specs.Results.{Stable, RoundDone}
-use Rattle.search.specs.Rounds.{due_of}
+use Rattle.search.specs.Rounds.{due_of, is_emptied}
 use Rattle.search.proofs.StableRows.{due_ready}
 use Rattle.search.proofs.Scans.{rounds_more}
 use Rattle.search.proofs.propagation.propagate.Goals as goal
@@ -32,3 +32,13 @@ loop-preserved g c = λ ready.
       done.rest,
       due_ready m g.met.B.Bank.lawful c.args.rows.now c.loop.sets t c.in-Due.rest now.2 done,
     )
+
+pub returns-in-Emptied-clause-value : goal.returns-in-Emptied-clause-value
+returns-in-Emptied-clause-value g c = λ ready.
+    let now = c.loop.invariant ready in
+    ap is_emptied (sym c.in-Emptied.is) ∙ c.run_round.ensures.emptied now.2 now.1
+
+pub returns-in-Settled-clause-value : goal.returns-in-Settled-clause-value
+returns-in-Settled-clause-value g c = λ ready.
+    let now = c.loop.invariant ready in
+    ap is_emptied (sym c.in-Settled.is) ∙ c.run_round.ensures.emptied now.2 now.1

@@ -65,6 +65,9 @@ returns-then-has_empty-clause-done g c = λ h s.
     record { inside = c.loop-i-test.true; row_is = c.index-rows-i.is; left = c.turn.ensures.after; paired = sym c.if-turn.true ∙ c.turn.ensures.value taken now.2.proper } in
     going_stops m rows c.args.stable i c.index-rows-i.result c.args.sets.now c.loop-i.sets t (due_of c.loop-i.next) w (sym c.has_empty.ensures ∙ c.if-has_empty.true) now.0
 
+pub returns-then-has_empty-clause-emptied : goal.returns-then-has_empty-clause-emptied
+returns-then-has_empty-clause-emptied g c = λ h s. sym c.if-has_empty.true ∙ c.has_empty.ensures
+
 pub returns-then-i-end-clause-done : goal.returns-then-i-end-clause-done
 returns-then-i-end-clause-done g c = λ h s.
     let now = c.loop-i.invariant h s in

@@ -26,7 +26,7 @@ returns-in-Solution-clause-goes g c =
     (levels_of c.args.self.now) (levels_in c.enter_next.new.self) c.args.self.now.opened c.args.self.now.exhausted (g.S.Store.state c.args.store.now) c.fixed_below-from.result
     c.requires.open (c.deref_mut-2.ensures.value ∙ with_items_is c.args.self.now.sets c.enter_next.new.sets long ∙ c.enter_next.ensures.after)
     c.classify-node.ensures.after c.fixed_below-from.ensures.value c.enter_next.ensures.list
-    (levels_in c.clear.new.self) c.in-Solution.ensures.value c.clear.ensures.level_none
+    (levels_in c.clear.new.self) c.in-Solution.ensures.value c.clear.ensures.no_level
     (with_items_is (with_items c.args.self.now.sets c.enter_next.new.sets) c.classify-node.new.sets long2)
 
 pub returns-in-Branch-clause-goes : goal.returns-in-Branch-clause-goes
